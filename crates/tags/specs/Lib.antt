@@ -1,0 +1,4 @@
+pub mod Bytes
+pub mod Marks
+pub mod Steps
+pub mod Reads
