@@ -1,0 +1,6 @@
+//! What a piece of a file holds: rows, each with its action in a list beside, and perhaps a fault.
+pub mod row;
+
+pub use row::PieceFault;
+pub use row::Row;
+pub use row::RowKind;
