@@ -7,10 +7,11 @@ ghost use Rattle.tags.specs.Marks.{scanned, firstOr, marksOf};
 pub fn scan(file: &[u8], from: usize, to: usize) -> (usize, usize, usize)
     ensures { λ r. ⌜ r ≡ scanned (now (file .entry)) from to ⌝ }
 {
+    let end = to.min(file.len());
     let mut first = to;
     let mut last = to;
     let mut count = 0;
-    for at in from..to.min(file.len()) {
+    for at in from..end {
         if file[at] == b'<' {
             if count == 0 {
                 first = at;
@@ -26,7 +27,8 @@ pub fn scan(file: &[u8], from: usize, to: usize) -> (usize, usize, usize)
 pub fn next_mark(file: &[u8], from: usize, to: usize) -> usize
     ensures { λ r. ⌜ r ≡ firstOr to (marksOf (now (file .entry)) from to) ⌝ }
 {
-    for at in from..to.min(file.len()) {
+    let end = to.min(file.len());
+    for at in from..end {
         if file[at] == b'<' {
             return at;
         }

@@ -1,5 +1,8 @@
 //! Reads one tag.
 ghost use mathlib.Core.Path.{_≡_};
+ghost use Prim.Native.Nat.{_≤_};
+ghost use lib.ListN.{length};
+ghost use Rattle.std.specs.Results.{Cases};
 ghost use Rattle.tags.specs.Steps.{next, inName, atEnd};
 ghost use Rattle.tags.specs.Reads.{readTag, outcome, shown, tagAt};
 use crate::tag::Cause;
@@ -109,7 +112,8 @@ impl Reader {
 }
 
 fn read_stretch<'a>(stretch: &'a [u8]) -> Result<Tag<'a>, Stop>
-    ensures { λ r. ⌜ outcome r ≡ readTag (now (stretch .entry)) ⌝ }
+    ensures read { λ r. ⌜ outcome r ≡ readTag (now (stretch .entry)) ⌝ }
+    ensures within { λ r. ⌜ Cases r (λ _. Unit {0}) (λ e. e .at ≤ length (now (stretch .entry))) ⌝ }
 {
     let mut reader = Reader::new();
     let mut from = 0;
