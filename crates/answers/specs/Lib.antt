@@ -1,3 +1,4 @@
 pub mod Faults
 pub mod Own
 pub mod Finish
+pub mod Laws
