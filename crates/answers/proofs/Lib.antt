@@ -1,3 +1,9 @@
 pub mod Joins
 pub mod Cuts
 pub mod Wholes
+pub mod Past
+pub mod Seen
+pub mod Tagged
+pub mod After
+pub mod Walk
+pub mod Rules

@@ -2,3 +2,5 @@ pub mod Faults
 pub mod Own
 pub mod Finish
 pub mod Laws
+pub mod Rule
+pub mod Exact
