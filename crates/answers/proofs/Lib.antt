@@ -7,3 +7,4 @@ pub mod Tagged
 pub mod After
 pub mod Walk
 pub mod Rules
+pub mod Listings

@@ -55,7 +55,7 @@ of-refusal file x (unclosed {o} {os} {p} A) = subst (λ l. answer [] 0 l ≡ Err
 same-elements : {es fs : List Element} → _≡_ {A = Result (List Element) Fault} (Ok es) (Ok fs) → es ≡ fs
 same-elements e = cc
 
-no-ok : {f : Fault} {ms : List Match} → _≡_ {A = Result (List Match) Fault} (Err f) (Ok ms) → ⊥
+pub no-ok : {f : Fault} {ms : List Match} → _≡_ {A = Result (List Match) Fault} (Err f) (Ok ms) → ⊥
 no-ok e = let z : _≡_ {A = ℕ} 0 1 = cc in omega arith
 
 -- The answers.

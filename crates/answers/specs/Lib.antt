@@ -4,3 +4,4 @@ pub mod Finish
 pub mod Laws
 pub mod Rule
 pub mod Exact
+pub mod Listing
