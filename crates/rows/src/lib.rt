@@ -1,4 +1,7 @@
 //! What a piece of a file holds: rows, each with its action in a list beside, and perhaps a fault.
+pub mod names;
+pub mod places;
+pub mod putting;
 pub mod row;
 
 pub use row::PieceFault;
