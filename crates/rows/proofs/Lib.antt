@@ -1,3 +1,8 @@
 pub mod Bytes
-pub mod Zips
+pub mod Pairs
 pub mod Steps
+pub mod Loops
+pub mod Keeps
+pub mod Ends
+pub mod Mids
+pub mod Regions

@@ -1,6 +1,6 @@
 -- Rows by their places in a list, and what one row put after others comes to.
 use mathlib.Core.Path.{_≡_}
-use mathlib.Core.List.{List}
+use mathlib.Core.List.{List, [], _∷_}
 use Prim.Native.Nat.{ℕ, _+_, _<_, _≤_}
 use lib.ListN.{length, getD, take, drop, set}
 use Rattle.std.specs.declared.option.Option.{Option}
@@ -45,8 +45,14 @@ abbrev pub Based : List Row → ℕ → Option ℕ → Type 0
 Based rows n None = NoneOpen rows 0 n
 Based rows n (Some i) = BaseAt rows n i
 
-abbrev pub entry : {A P : Type 0} → Model A P → Row → P → Entry A
-entry m r p = record { row = r; act = m .back p }
+abbrev pub entry : {P : Type 0} → Row → P → Entry P
+entry r p = record { row = r; act = p }
+
+-- rows and plain forms in two lists: each row with the plain form at its place
+abbrev pub paired : {P : Type 0} → List Row → List P → List (Entry P)
+paired [] ps = []
+paired (r ∷ rs) [] = []
+paired (r ∷ rs) (p ∷ ps) = entry r p ∷ paired rs ps
 
 -- the first n of the entries z; the first of them, as many as left says, stand on the left, and the others were added
 abbrev pub state : {A : Type 0} → List (Entry A) → ℕ → ℕ → Option ℕ → Taken A

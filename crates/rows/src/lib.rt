@@ -1,4 +1,6 @@
 //! What a piece of a file holds: rows, each with its action in a list beside, and perhaps a fault.
+pub mod joining;
+pub mod keeping;
 pub mod names;
 pub mod places;
 pub mod putting;

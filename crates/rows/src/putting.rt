@@ -3,8 +3,8 @@ ghost use mathlib.Core.Path.{_≡_};
 ghost use Prim.Native.Nat.{ℕ, _+_, _<_, _≤_};
 ghost use lib.ListN.{length};
 ghost use Rattle.std.specs.declared.option.Option.the-variants.{None};
-ghost use Rattle.rows.specs.Pieces.{Inside, zipped, take-row};
-ghost use Rattle.rows.specs.Places.{stored, Based, at, entry, state, grown, stopped, wrote};
+ghost use Rattle.rows.specs.Pieces.{Inside, take-row};
+ghost use Rattle.rows.specs.Places.{stored, paired, Based, at, entry, state, grown, stopped, wrote};
 use crate::names::same_name;
 use crate::row::Row;
 use crate::row::RowKind;
@@ -27,7 +27,7 @@ pub fn put_row<M: Machine>(m: &M, file: &[u8], rows: &mut [Row], actions: &mut [
     requires based { ⌜ Based (now rows) left base ⌝ }
     requires names { ⌜ ((k : ℕ) → k < left → Inside (now file) (at (now rows) k)) ⌝ }
     requires own { ⌜ Inside (now file) row ⌝ }
-    ensures taken { λ r. ⌜ state (zipped (stored (model (now (m .entry)))) (now (rows .exit)) (now (actions .exit))) left (grown r n) (stopped r row) ≡ take-row (now (file .entry)) (stored (model (now (m .entry)))) (state (zipped (stored (model (now (m .entry)))) (now (rows .entry)) (now (actions .entry))) left n None) (entry (stored (model (now (m .entry)))) row (now (plain .entry))) ⌝ }
+    ensures taken { λ r. ⌜ state (paired (now (rows .exit)) (now (actions .exit))) left (grown r n) (stopped r row) ≡ take-row (now (file .entry)) (stored (model (now (m .entry)))) (state (paired (now (rows .entry)) (now (actions .entry))) left n None) (entry row (now (plain .entry))) ⌝ }
     ensures rows { λ r. ⌜ now (rows .exit) ≡ wrote r base n row (now (rows .entry)) ⌝ }
 {
     let Some(i) = base else {

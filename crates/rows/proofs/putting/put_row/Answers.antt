@@ -38,7 +38,7 @@ returns g c =
     let b : BaseAt (a .rows .now) (a .left) i = subst (Based (a .rows .now) (a .left)) (c .in-Some .is) (c .pre .based) in
     let h : i < length (a .actions .now) = omega (arith, b .below) in
     let r = c .index-actions-i .result in
-    let e : m .back (c .plain .result) ≡ m .then (m .back (getD (a .actions .now) i r)) (m .back (a .plain .now)) =
+    let e : c .plain .result ≡ m .then (getD (a .actions .now) i r) (a .plain .now) =
       stored-then (g .M·Machine .model (a .m .now)) (getD (a .actions .now) i r) (a .plain .now) (c .plain .result)
       (let f = c .index-actions-i .is in cc) in
     record { taken = under-step (a .file .now) m (a .rows .now) (a .actions .now) (c .pre .sizes) (a .left) (a .n) (c .pre .room) (c .pre .within) (a .row) i b (a .plain .now) (c .plain .result) r (c .in-rest-kind .not-Close) e; rows = refl }
