@@ -6,3 +6,4 @@ pub mod Keeps
 pub mod Ends
 pub mod Mids
 pub mod Regions
+pub mod Tags

@@ -1,3 +1,4 @@
 pub mod Pieces
 pub mod Stretches
 pub mod Places
+pub mod Made

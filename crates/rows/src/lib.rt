@@ -5,6 +5,7 @@ pub mod names;
 pub mod places;
 pub mod putting;
 pub mod row;
+pub mod tagging;
 
 pub use row::PieceFault;
 pub use row::Row;
