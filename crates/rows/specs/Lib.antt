@@ -1,2 +1,4 @@
 pub mod Pieces
 pub mod Stretches
+pub mod Places
+pub mod Made
