@@ -1,1 +1,4 @@
 pub mod Model
+pub mod Paths
+pub mod Queries
+pub mod Masks
