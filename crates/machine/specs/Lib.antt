@@ -3,4 +3,6 @@ pub mod Paths
 pub mod Queries
 pub mod Masks
 pub mod Limits
+pub mod Text
+pub mod Reading
 pub mod Views

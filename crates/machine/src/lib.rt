@@ -5,6 +5,7 @@ pub mod machine;
 pub mod name;
 pub mod names;
 pub mod position;
+pub mod reader;
 
 pub use laws::path_rule;
 pub use machine::Machine;
