@@ -1,4 +1,12 @@
-//! What a machine for path queries is: its interface and its laws.
+//! What a machine for path queries is: its interface and its laws, the path rule, and the queries of a text.
+pub mod laws;
+pub mod lookup;
 pub mod machine;
+pub mod name;
+pub mod names;
+pub mod position;
+pub mod reader;
 
+pub use laws::path_rule;
 pub use machine::Machine;
+pub use position::Position;
