@@ -6,7 +6,9 @@ pub mod name;
 pub mod names;
 pub mod position;
 pub mod reader;
+pub mod refusal;
 
 pub use laws::path_rule;
 pub use machine::Machine;
 pub use position::Position;
+pub use refusal::Refusal;
