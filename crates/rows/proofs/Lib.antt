@@ -4,7 +4,8 @@ pub mod Pairs
 pub mod Steps
 pub mod Loops
 pub mod Keeps
-pub mod Ends
+pub mod Puts
+pub mod Rules
 pub mod Mids
 pub mod Regions
 pub mod Tags

@@ -73,7 +73,7 @@ fits-tag [] = tt
 fits-tag (b ∷ bs) = fits-first (mark b) b bs
 
 -- the same of a tag in a file
-abbrev Within : List ℕ → ℕ → Result (TagKind × List ℕ) TagFault → Type 0
+abbrev pub Within : List ℕ → ℕ → Result (TagKind × List ℕ) TagFault → Type 0
 Within file mark (Ok t) = mark + length (t .1) + 2 ≤ length file
 Within file mark (Err e) = Unit {0}
 

@@ -2,3 +2,4 @@ pub mod Pieces
 pub mod Stretches
 pub mod Places
 pub mod Made
+pub mod Lists

@@ -3,13 +3,19 @@ ghost use mathlib.Core.Path.{_≡_};
 ghost use Prim.Native.Nat.{ℕ, _+_, _<_, _≤_};
 ghost use lib.ListN.{length, take, drop};
 ghost use Rattle.std.specs.declared.option.Option.the-variants.{None};
-ghost use Rattle.rows.specs.Pieces.{Inside, closes, take-row, run};
+ghost use Rattle.rows.specs.Pieces.{Inside, take-row, run, seal, fault-after, put};
+ghost use Rattle.rows.specs.Stretches.{one};
+ghost use Rattle.rows.specs.Lists.{kept-at, held, RowRule};
 ghost use Rattle.rows.specs.Places.{stored, paired, Based, at, entry, state, grown, stopped, wrote};
 use crate::keeping::keep_closes;
+use crate::part::Kept;
+use crate::part::Part;
 use crate::places::last_open;
 use crate::putting::Step;
 use crate::putting::put_row;
+use crate::row::PieceFault;
 use crate::row::Row;
+use crate::tagging::tag_row;
 use machine::Machine;
 
 /// What taking rows came to: how many there are now, and the place of a mismatch.
@@ -42,15 +48,18 @@ fn last_open_from(rows: &[Row], used: usize, end: usize) -> Option<usize>
     last_open(&rows[used..], end)
 }
 
-/// Keeps only the Close rows of the first `n` from `used` on, and says how many there are.
-fn keep_from<P: Copy>(rows: &mut [Row], actions: &mut [P], used: usize, n: usize) -> usize
+/// What the first `n` rows from `used` on come to with a fault, or without one.
+fn seal_from<P: Copy>(rows: &mut [Row], actions: &mut [P], used: usize, n: usize, fault: Option<PieceFault>) -> Kept
     requires sizes { ⌜ length (now rows) ≡ length (now actions) ⌝ }
     requires within { ⌜ used + n ≤ length (now rows) ⌝ }
-    ensures kept { λ r. ⌜ take r (paired (drop used (now (rows .exit))) (drop used (now (actions .exit)))) ≡ closes (take n (paired (drop used (now (rows .entry))) (drop used (now (actions .entry))))) ⌝ }
-    ensures within { λ r. ⌜ r ≤ n ⌝ }
+    ensures sealed { λ r. ⌜ kept-at (now (rows .exit)) (now (actions .exit)) used r ≡ seal (take n (paired (drop used (now (rows .entry))) (drop used (now (actions .entry))))) fault ⌝ }
+    ensures within { λ r. ⌜ r .rows ≤ n ⌝ }
     ensures old { λ _. ⌜ (take used (now (rows .exit)) ≡ take used (now (rows .entry))) × (take used (now (actions .exit)) ≡ take used (now (actions .entry))) ⌝ }
 {
-    keep_closes(&mut rows[used..], &mut actions[used..], n)
+    match fault {
+        None => Kept { rows: n, fault },
+        Some(_) => Kept { rows: keep_closes(&mut rows[used..], &mut actions[used..], n), fault },
+    }
 }
 
 /// Puts the `count` rows from `from` on, in order, after the first `left` rows from `used` on.
@@ -80,4 +89,59 @@ fn take_rows<M: Machine>(m: &M, file: &[u8], rows: &mut [Row], actions: &mut [M:
         }
     }
     Taking { rows: n, stop: None }
+}
+
+/// The fault that comes first: a mismatch, or else the one after all rows.
+fn fault_of(stop: Option<u32>, fault: Option<PieceFault>) -> Option<PieceFault>
+    ensures { λ r. ⌜ r ≡ fault-after stop fault ⌝ }
+{
+    match stop {
+        Some(place) => Some(PieceFault::Mismatch { place: place as usize }),
+        None => fault,
+    }
+}
+
+/// Puts a piece's rows after what is kept from `used` on.
+fn put_part<M: Machine>(m: &M, file: &[u8], rows: &mut [Row], actions: &mut [M::Plain], used: usize, x: Kept, part: Part) -> Kept
+    requires sizes { ⌜ length (now rows) ≡ length (now actions) ⌝ }
+    requires below { ⌜ part .at + part .kept .rows ≤ used ⌝ }
+    requires room { ⌜ used + x .rows + part .kept .rows ≤ length (now rows) ⌝ }
+    requires rule { ⌜ RowRule (now file) (now rows) used (x .rows) ⌝ }
+    requires own { ⌜ RowRule (now file) (now rows) (part .at) (part .kept .rows) ⌝ }
+    ensures put { λ r. ⌜ kept-at (now (rows .exit)) (now (actions .exit)) used r ≡ put (now (file .entry)) (stored (model (now (m .entry)))) (kept-at (now (rows .entry)) (now (actions .entry)) used x) (held (now (rows .entry)) (now (actions .entry)) part) ⌝ }
+    ensures within { λ r. ⌜ r .rows ≤ x .rows + part .kept .rows ⌝ }
+    ensures old { λ _. ⌜ (take used (now (rows .exit)) ≡ take used (now (rows .entry))) × (take used (now (actions .exit)) ≡ take used (now (actions .entry))) ⌝ }
+{
+    if let Some(_) = x.fault {
+        return x;
+    }
+    let taking = take_rows(m, file, rows, actions, used, x.rows, part.at, part.kept.rows);
+    let fault = fault_of(taking.stop, part.kept.fault);
+    seal_from(rows, actions, used, taking.rows, fault)
+}
+
+/// Puts the stretch from `mark` up to the next mark at `to` after what is kept from `used` on.
+fn put_stretch<M: Machine>(m: &M, file: &[u8], rows: &mut [Row], actions: &mut [M::Plain], used: usize, x: Kept, mark: usize, to: usize) -> Kept
+    requires bytes { ⌜ length (now file) < 4294967296 ⌝ }
+    requires sizes { ⌜ length (now rows) ≡ length (now actions) ⌝ }
+    requires room { ⌜ used + x .rows < length (now rows) ⌝ }
+    requires rule { ⌜ RowRule (now file) (now rows) used (x .rows) ⌝ }
+    ensures put { λ r. ⌜ kept-at (now (rows .exit)) (now (actions .exit)) used r ≡ put (now (file .entry)) (stored (model (now (m .entry)))) (kept-at (now (rows .entry)) (now (actions .entry)) used x) (one (now (file .entry)) (stored (model (now (m .entry)))) (mark, to)) ⌝ }
+    ensures within { λ r. ⌜ r .rows ≤ x .rows + 1 ⌝ }
+    ensures old { λ _. ⌜ (take used (now (rows .exit)) ≡ take used (now (rows .entry))) × (take used (now (actions .exit)) ≡ take used (now (actions .entry))) ⌝ }
+{
+    if let Some(_) = x.fault {
+        return x;
+    }
+    let n = x.rows;
+    let (row, plain) = match tag_row(m, file, mark, to) {
+        Ok(made) => made,
+        Err(fault) => return seal_from(rows, actions, used, n, Some(fault)),
+    };
+    let base = last_open_from(rows, used, n);
+    match put_at(m, file, rows, actions, used, n, n, base, row, &plain) {
+        Step::Added => Kept { rows: n + 1, fault: None },
+        Step::Closed => Kept { rows: n, fault: None },
+        Step::Mismatch => seal_from(rows, actions, used, n, Some(PieceFault::Mismatch { place: row.place as usize })),
+    }
 }

@@ -2,6 +2,7 @@
 pub mod joining;
 pub mod keeping;
 pub mod names;
+pub mod part;
 pub mod places;
 pub mod putting;
 pub mod row;

@@ -4,8 +4,10 @@ use native.Mathlib.Omega.{arith}
 use lib.ListN.{length, drop, take}
 use Rattle.std.proofs.shelf.Lists.{take-rest, length-drop}
 use Rattle.rows.proofs.Mids.{tail-mid, front-mid}
+use Rattle.rows.specs.Places.{paired}
+use Rattle.rows.proofs.Puts.{seal-none, seal-some}
 use Rattle.rows.proofs.Regions.{kept-moved}
-use Rattle.rows.proofs.joining.keep_from.Needs as need
+use Rattle.rows.proofs.joining.seal_from.Needs as need
 
 pub keep-closes-requires : need.keep-closes-requires
 keep-closes-requires g c κs =
@@ -19,8 +21,8 @@ keep-closes-requires g c κs =
       within = omega (arith, ap length e);
     }
 
-pub returns : need.returns
-returns g c =
+pub returns-in-Some : need.returns-in-Some
+returns-in-Some g c =
     let a = c .args in
     let u = a .used in
     let rs = a .rows .now in
@@ -37,7 +39,16 @@ returns g c =
     let t = tail-mid u ps nps i (omega (arith, q)) in
     let d = c .keep-closes .ensures in
     record {
-      kept = kept-moved (drop u rs) _ new _ (drop u ps) _ nps _ (c .keep-closes .result) (a .n) e f s t (d .kept);
+      sealed = seal-some (take (a .n) (paired (drop u rs) (drop u ps))) _ (a .fault) (c .in-Some .field-0) (c .in-Some .is) (kept-moved (drop u rs) _ new _ (drop u ps) _ nps _ (c .keep-closes .result) (a .n) e f s t (d .kept));
       within = d .within;
       old = (front-mid u rs new h, front-mid u ps nps i);
+    }
+
+pub returns-in-None : need.returns-in-None
+returns-in-None g c =
+    let a = c .args in
+    record {
+      sealed = seal-none (take (a .n) (paired (drop (a .used) (a .rows .now)) (drop (a .used) (a .actions .now)))) (a .fault) (c .in-None .is);
+      within = omega arith;
+      old = (refl, refl);
     }
