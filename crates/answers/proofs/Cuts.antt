@@ -14,7 +14,7 @@ use Rattle.machine.specs.Model.{Model, Lawful}
 use Rattle.rows.specs.Pieces.{Content, put}
 use Rattle.rows.specs.Stretches.{pairs, one, eval, content, joined-ends, joined-at, last-put}
 use Rattle.answers.specs.Own.{file-stretches}
-use Rattle.answers.specs.Laws.{between-marks, Stretched, Join, Cut, piece, two, cut-marks, cut-content, AnyCut}
+use Rattle.answers.specs.Laws.{between-marks, Stretched, Join, Cut, piece, two, AnyCut}
 use Rattle.answers.proofs.Joins.{joins, eval-push}
 
 -- Marks and stretches.

@@ -8,3 +8,4 @@ pub mod After
 pub mod Walk
 pub mod Rules
 pub mod Listings
+pub mod Paths

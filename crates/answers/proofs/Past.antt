@@ -1,5 +1,5 @@
 -- Reading a tag never goes past a mark.
-use mathlib.Core.Path.{_≡_, refl, sym, ap, _∙_}
+use mathlib.Core.Path.{_≡_, refl, ap}
 use mathlib.Core.Bool.{Bool, true, false, cond}
 use mathlib.Core.List.{List, [], _∷_, _++_, append-nil}
 use Prim.Native.Nat.{ℕ, _+_}
@@ -13,7 +13,7 @@ use Rattle.tags.specs.declared.reader.Step.the-variants.{On, Done, Bad}
 use Rattle.tags.specs.Steps.{next, inName, atEnd}
 use Rattle.tags.specs.Reads.{readTag, reads}
 use Rattle.grammar.proofs.Runs.{goes}
-use Rattle.answers.specs.Rule.{AtMark, at-end, Past}
+use Rattle.answers.specs.Rule.{at-end, Past}
 use Rattle.answers.specs.Rule as rule
 
 -- the states after a tag's mark

@@ -14,10 +14,9 @@ use Rattle.tags.specs.declared.tag.TagKind.{TagKind}
 use Rattle.tags.specs.declared.tag.TagKind.the-variants.{Start, Empty, End}
 use Rattle.tags.specs.declared.tag.TagFault.{TagFault}
 use Rattle.tags.specs.Reads.{tagAt}
-use Rattle.machine.specs.Model.{Model, thenAll, pathAction, Lawful}
+use Rattle.machine.specs.Model.{Model, thenAll, Lawful}
 use Rattle.rows.specs.declared.row.RowKind.{RowKind}
 use Rattle.rows.specs.declared.row.RowKind.the-variants.{Close, Open, Done}
-use Rattle.rows.specs.declared.row.Row.{Row}
 use Rattle.rows.specs.declared.row.PieceFault.{PieceFault}
 use Rattle.rows.specs.declared.row.PieceFault.the-variants as piece
 use Rattle.rows.specs.Pieces.{name, Entry, base, close-last, closes, under, Content, put}
@@ -26,7 +25,7 @@ use Rattle.rows.proofs.Names.{row-name}
 use Rattle.answers.specs.declared.fault.Fault.{Fault}
 use Rattle.answers.specs.declared.fault.Fault.the-variants.{Stray, Mismatch}
 use Rattle.answers.specs.declared.matches.Match.{Match}
-use Rattle.answers.specs.Own.{file-stretches, Seen, seen-at, Opened, path, Element, with-element, elements-from, matches-at, matches, judged}
+use Rattle.answers.specs.Own.{file-stretches, seen-at, Opened, path, Element, with-element, elements-from, matches-at, matches, judged}
 use Rattle.answers.specs.Finish.{first-close, row-matches, finish}
 use Rattle.answers.specs.Laws.{Whole, AnyCutWhole}
 use Rattle.answers.proofs.Joins.{base-append, close-last-append}

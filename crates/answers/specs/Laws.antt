@@ -1,13 +1,12 @@
 -- Why a file may be read in pieces: the laws of contents, for any machine.
 use mathlib.Core.Path.{_≡_}
-use mathlib.Core.Bool.{cond}
 use mathlib.Core.List.{List, [], _∷_, _++_}
 use Prim.Native.Nat.{ℕ, _≤_}
 use lib.ListN.{length}
 use Rattle.tags.specs.Marks.{marksOf, scanned, lastOr}
 use Rattle.machine.specs.Model.{Model}
-use Rattle.rows.specs.Pieces.{Content, put}
-use Rattle.rows.specs.Stretches.{pairs, one, content, joined-ends, joined-at, last-put}
+use Rattle.rows.specs.Pieces.{Content}
+use Rattle.rows.specs.Stretches.{pairs, content, joined-ends, joined-at, last-put}
 use Rattle.answers.specs.Own.{own}
 use Rattle.answers.specs.Finish.{finish}
 

@@ -5,3 +5,5 @@ pub mod Laws
 pub mod Rule
 pub mod Exact
 pub mod Listing
+pub mod Paths
+pub mod Examples

@@ -4,6 +4,8 @@ ghost use Rattle.answers.specs.Laws.{Stretched, Join, AnyCut, Whole, AnyCutWho
 ghost use Rattle.answers.specs.Rule.{Accepted, Past};
 ghost use Rattle.answers.specs.Exact.{Exactly};
 ghost use Rattle.answers.specs.Listing.{Listing};
+ghost use Rattle.answers.specs.Examples.{Files, Pieces};
+ghost use Rattle.answers.specs.Paths.{EveryVerdict};
 
 /// For every machine that keeps its laws: a part of a file, cut anywhere, has the content of its two parts joined;
 /// cut anyhow and joined in any order, that of one read; and the whole file's content, finished, is the file's own answer.
@@ -22,5 +24,13 @@ pub fn content_rule()
     ensures exactly { λ _. ⌜ Exactly ⌝ }
     ensures listing { λ _. ⌜ Listing ⌝ }
     ensures past { λ _. ⌜ Past ⌝ }
+{
+}
+
+/// Some small files and pieces worked through, the pieces by a machine whose actions are paths.
+pub fn worked_files()
+    ensures files { λ _. ⌜ Files ⌝ }
+    ensures pieces { λ _. ⌜ Pieces ⌝ }
+    ensures machine { λ _. ⌜ EveryVerdict ⌝ }
 {
 }
