@@ -6,3 +6,5 @@ pub mod Limits
 pub mod Text
 pub mod Reading
 pub mod Views
+pub mod Refusals
+pub mod Sketches
