@@ -5,3 +5,4 @@ pub mod Viewed
 pub mod Texts
 pub mod Complete
 pub mod Sound
+pub mod Counting

@@ -7,3 +7,4 @@ pub mod Text
 pub mod Reading
 pub mod Views
 pub mod Refusals
+pub mod Sketches
