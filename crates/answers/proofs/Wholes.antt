@@ -21,7 +21,7 @@ use Rattle.rows.specs.declared.row.PieceFault.{PieceFault}
 use Rattle.rows.specs.declared.row.PieceFault.the-variants as piece
 use Rattle.rows.specs.Pieces.{name, Entry, base, close-last, closes, under, Content, put}
 use Rattle.rows.specs.Stretches.{row-of, lone, made, one, eval-from, eval, last-put}
-use Rattle.rows.proofs.Names.{row-name}
+use Rattle.rows.proofs.Shown.{row-name}
 use Rattle.answers.specs.declared.fault.Fault.{Fault}
 use Rattle.answers.specs.declared.fault.Fault.the-variants.{Stray, Mismatch}
 use Rattle.answers.specs.declared.matches.Match.{Match}

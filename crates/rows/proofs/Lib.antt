@@ -1,4 +1,4 @@
-pub mod Names
+pub mod Shown
 pub mod Bytes
 pub mod Pairs
 pub mod Steps
