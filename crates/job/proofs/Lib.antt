@@ -1,0 +1,5 @@
+pub mod Mapped
+pub mod Splices
+pub mod Held
+pub mod Asked
+pub mod Running
