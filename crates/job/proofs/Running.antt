@@ -69,7 +69,7 @@ module _ {A P : Type 0} (m : Model A P) (file : List ℕ) where
       (sound : Sound m file w) (order : from ≤ to) (end : to ≤ w .job .size) (over-rows : w .job .used ≤ length (w .rows)) (over-acts : w .job .used ≤ length (w .actions))
       (marks-are : marks ≡ scanned file from to) (is : c ≡ read-plain from to) where
     abbrev next : Piece
-    next = new-piece (w .job .used) from to marks c
+    next = new-piece (w .job .used) from to marks (kept-of c)
 
     abbrev left : World P
     left = record { job = with-piece (w .job) from to marks c; rows = v .rows; actions = v .actions }

@@ -14,7 +14,7 @@ use Rattle.machine.specs.declared.refusal.Refusal.{Refusal}
 use Rattle.machine.specs.declared.refusal.Refusal.the-variants.{FileTooLong, OtherLength, ListsTooShort, OutOfRange, NoSuchPiece, PiecesApart, NotWhole, RowsBroken, TooManyPieces, NoRoomForRows, NoRoomForMatches}
 use Rattle.machine.specs.Model.{Model}
 use Rattle.rows.specs.declared.row.Row.{Row}
-use Rattle.rows.specs.declared.part.Part.{Part}
+use Rattle.rows.specs.declared.part.Kept.{Kept}
 use Rattle.rows.specs.Pieces.{Content}
 use Rattle.rows.specs.Stretches.{content, joined-ends, joined-at, last-put}
 use Rattle.rows.specs.Places.{stored}
@@ -136,6 +136,11 @@ abbrev pub Turns : Option Refusal → (Refusal → Type 0) → Type 0 → Type 0
 Turns (Some why) refused accepted = refused why
 Turns None refused accepted = accepted
 
+-- what an accepted call may go on with
+abbrev pub allowed : {X : Type 0} → Option Refusal → X → Result X Refusal
+allowed (Some why) x = Err why
+allowed None x = Ok x
+
 -- a refused call changes nothing
 pub record Refused {W X : Type 0} (why : Refusal) (w : W) (r : Result X Refusal) (v : W) : Type 0 where
   pub reply : r ≡ Err why
@@ -151,13 +156,16 @@ Unchanged (Err why) old new = new ≡ old
 abbrev pub opened : ℕ → State
 opened size = record { size = size; pieces = []; used = 0 }
 
-abbrev pub new-piece : ℕ → ℕ → ℕ → ℕ × ℕ × ℕ → {P : Type 0} → Content P → Piece
-new-piece used from to marks c = record { from = from; to = to; part = record { first = marks .0; last = marks .1; marks = marks .2; at = used; kept = kept-of c } }
+abbrev pub new-piece : ℕ → ℕ → ℕ → ℕ × ℕ × ℕ → Kept → Piece
+new-piece used from to marks kept = record { from = from; to = to; part = record { first = marks .0; last = marks .1; marks = marks .2; at = used; kept = kept } }
 
 -- one more piece, whose rows stand after the used ones
+abbrev pub with-kept : State → ℕ → ℕ → ℕ × ℕ × ℕ → Kept → State
+with-kept j from to marks kept =
+    record { size = j .size; pieces = j .pieces ++ (new-piece (j .used) from to marks kept ∷ []); used = j .used + kept .rows }
+
 abbrev pub with-piece : {P : Type 0} → State → ℕ → ℕ → ℕ × ℕ × ℕ → Content P → State
-with-piece j from to marks c =
-    record { size = j .size; pieces = j .pieces ++ (new-piece (j .used) from to marks c ∷ []); used = j .used + length (c .rows) }
+with-piece j from to marks c = with-kept j from to marks (kept-of c)
 
 -- the new piece's number is answered, and its rows and actions are written. List places after its rows, up to its number of marks, hold anything; all others stay
 pub record Accepted {P : Type 0} (w : World P) (from to : ℕ) (marks : ℕ × ℕ × ℕ) (c : Content P) (r : Result ℕ Refusal) (v : World P) : Type 0 where

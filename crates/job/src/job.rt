@@ -5,6 +5,10 @@ ghost use lib.ListN.{length, getD};
 ghost use Rattle.job.specs.Pieces.{InPlace, no-piece};
 use crate::piece::Piece;
 
+pub mod asks;
+pub mod calls;
+pub mod pieces;
+
 /// A file of `size` bytes in work: the pieces made of it so far, and how many rows of the lists they use.
 #[derive(Clone, Copy)]
 pub struct Job {

@@ -1,0 +1,40 @@
+//! The calls that make pieces.
+ghost use mathlib.Core.Path.{_≡_};
+ghost use mathlib.Core.List.{[], _∷_, _++_};
+ghost use Prim.Native.Nat.{ℕ, _+_, _-_, _<_, _≤_, _^_};
+ghost use Rattle.rows.specs.Stretches.{joined-ends};
+ghost use Rattle.rows.specs.Lists.{ends-of};
+ghost use Rattle.job.specs.State.{world, Unchanged, Join-says};
+use crate::job::Job;
+use machine::Machine;
+use machine::Refusal;
+use rows::Row;
+use rows::joining::join as join_rows;
+use rows::part::Part;
+
+/// The first mark, the last mark and the number of marks of two neighbours together.
+fn joined_ends(left: Part, right: Part) -> (usize, usize, usize)
+    requires { ⌜ left .marks + right .marks < 2 ^ 64 ⌝ }
+    ensures { λ r. ⌜ r ≡ joined-ends (ends-of left) (ends-of right) ⌝ }
+{
+    if left.marks == 0 {
+        return (right.first, right.last, right.marks);
+    }
+    if right.marks == 0 {
+        return (left.first, left.last, left.marks);
+    }
+    (left.first, right.last, left.marks + right.marks)
+}
+
+impl Job {
+    /// Makes a piece of two that lie side by side, and leaves them there.
+    pub fn join<M: Machine>(&mut self, m: &M, file: &[u8], rows: &mut [Row], actions: &mut [M::Plain], left: usize, right: usize) -> Result<usize, Refusal>
+        ensures says { λ r. ⌜ Join-says (now (file .entry)) (model (now (m .entry))) (world (now (self .entry)) (now (rows .entry)) (now (actions .entry))) left right r (world (now (self .exit)) (now (rows .exit)) (now (actions .exit))) ⌝ }
+        ensures kept { λ r. ⌜ Unchanged r (now (self .entry)) (now (self .exit)) ⌝ }
+    {
+        let (l, r) = self.ask_join(file, rows, actions, left, right)?;
+        let marks = joined_ends(l.part, r.part);
+        let kept = join_rows(m, file, rows, actions, self.used, l.part, r.part);
+        Ok(self.add(l.from, r.to, marks, kept))
+    }
+}
