@@ -7,6 +7,7 @@ pub mod Puts
 pub mod Rules
 pub mod Copies
 pub mod Leaves
+pub mod Rings
 pub mod Mids
 pub mod Regions
 pub mod Tags

@@ -2,6 +2,7 @@
 pub mod joining;
 pub mod keeping;
 pub mod names;
+pub mod opens;
 pub mod part;
 pub mod places;
 pub mod putting;
