@@ -8,6 +8,7 @@ pub mod Rules
 pub mod Copies
 pub mod Leaves
 pub mod Rings
+pub mod Readers
 pub mod Mids
 pub mod Regions
 pub mod Tags

@@ -4,3 +4,4 @@ pub mod Places
 pub mod Made
 pub mod Lists
 pub mod Opens
+pub mod Reading

@@ -6,6 +6,7 @@ pub mod opens;
 pub mod part;
 pub mod places;
 pub mod putting;
+pub mod reading;
 pub mod row;
 pub mod tagging;
 
