@@ -9,6 +9,7 @@ pub mod Copies
 pub mod Leaves
 pub mod Rings
 pub mod Readers
+pub mod Marking
 pub mod Mids
 pub mod Regions
 pub mod Tags

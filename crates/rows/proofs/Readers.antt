@@ -115,3 +115,11 @@ module _ (file : List ℕ) (rs rs′ : List Row) (r : Reader) (room : r .rows < 
 
     pub ready-closed : rs′ ≡ close-row (r .base) rs → Reclosed rs′ r is → Ready file rs′ is
     ready-closed e q = closed (r .base) (ready .based) (ready .chain) e q
+
+pub ready-none : (file : List ℕ) (rs : List Row) (r : Reader) → r .rows ≡ 0 → r .base ≡ None → Sound (r .opens) → Ready file rs r
+ready-none file rs r e f sound = record {
+  sound = sound;
+  based = subst (λ b. Based rs (r .rows) b) (sym f) (λ k a b o. absurd (omega arith));
+  chain = subst (λ b. ChainAt rs b (r .opens)) (sym f) tt;
+  names = λ k h. absurd (omega arith);
+}

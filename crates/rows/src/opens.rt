@@ -11,6 +11,7 @@ use crate::row::Row;
 use crate::row::RowKind;
 
 /// The places of the open rows below the base, innermost last, in a ring before `top`. What does not fit is forgotten, outermost first.
+#[derive(Drop)]
 pub struct Opens {
     pub cells: [usize; 4096],
     pub top: usize,
