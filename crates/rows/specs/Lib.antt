@@ -1,2 +1,5 @@
 pub mod Pieces
 pub mod Stretches
+pub mod Places
+pub mod Made
+pub mod Lists
