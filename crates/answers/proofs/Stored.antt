@@ -1,6 +1,5 @@
 -- Contents whose actions are kept in plain forms.
 use mathlib.Core.Path.{_≡_, refl, sym, ap, subst, _∙_}
-use mathlib.Core.Bool.{Bool, true, false}
 use mathlib.Core.List.{List, [], _∷_, _++_, map}
 use Prim.Native.Nat.{ℕ}
 use native.Mathlib.Omega.{arith}
@@ -14,7 +13,6 @@ use Rattle.tags.specs.declared.tag.TagKind.the-variants.{Start, Empty, End}
 use Rattle.tags.specs.declared.tag.TagFault.{TagFault}
 use Rattle.tags.specs.Reads.{tagAt}
 use Rattle.machine.specs.Model.{Model, thenAll, Lawful}
-use Rattle.rows.specs.declared.row.RowKind.the-variants.{Close, Open, Done}
 use Rattle.rows.specs.declared.row.PieceFault.{PieceFault}
 use Rattle.rows.specs.Pieces.{Entry, base, close-last, closes, under, Taken, run, Content, seal, fault-after, put}
 use Rattle.rows.specs.Stretches.{made, one, eval-from, nothing, stretches}
