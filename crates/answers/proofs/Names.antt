@@ -60,6 +60,6 @@ module _ (file : List ℕ) (mark to : ℕ) (k : TagKind) (n : List ℕ) (h : tag
   row-name =
       let s = from-mark in
       let at : drop (mark + skip (row-kind k)) file ≡ n ++ s .rest =
-        sym (drop-drop (skip (row-kind k)) mark file) ∙ ap (drop (skip (row-kind k))) (s .split)
-        ∙ ap (λ i. drop i (s .front ++ (n ++ s .rest))) (sym (s .skipped)) ∙ drop-append-seam (s .front) (n ++ s .rest) in
+      sym (drop-drop (skip (row-kind k)) mark file) ∙ ap (drop (skip (row-kind k))) (s .split)
+      ∙ ap (λ i. drop i (s .front ++ (n ++ s .rest))) (sym (s .skipped)) ∙ drop-append-seam (s .front) (n ++ s .rest) in
       ap (take (length n)) at ∙ take-append-seam n (s .rest)

@@ -153,7 +153,7 @@ module _ {A : Type 0} where
           let r = elements-from fs (map (seen-at file) ss) in
           ap (λ x. finish m (eval-from file m (good (cs ++ (x ∷ []))) ss)) (under-is cs os k p n st) ∙ later
           ∙ ap (λ l. in-front l (judged (m .verdict) r))
-            (row-matches-append cs (entry k p n (led os n) ∷ []) ∙ ap (λ l. row-matches m cs ++ l) (append-nil (matches-at p 0 (m .marks (led os n)))) ∙ ap (λ b. row-matches m cs ++ matches-at p 0 b) (marks-led os n))
+          (row-matches-append cs (entry k p n (led os n) ∷ []) ∙ ap (λ l. row-matches m cs ++ l) (append-nil (matches-at p 0 (m .marks (led os n)))) ∙ ap (λ b. row-matches m cs ++ matches-at p 0 b) (marks-led os n))
           ∙ judged-with (row-matches m cs) p ns r
 
       abbrev Later : List (ℕ × ℕ) → Type 0

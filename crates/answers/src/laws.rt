@@ -16,8 +16,7 @@ pub fn pieces_join<Action, Plain>()
     ensures whole { λ _. ⌜ ((m : Model Action Plain) → Lawful m → Whole m) ⌝ }
     ensures cuts_whole { λ _. ⌜ ((m : Model Action Plain) → Lawful m → AnyCutWhole m) ⌝ }
     ensures stored { λ _. ⌜ ((m : Model Action Plain) → Lawful m → Stored m) ⌝ }
-{
-}
+{}
 
 /// A file is accepted exactly if its bytes follow the rule for content, and each answer is told exactly by what the bytes say.
 pub fn content_rule()
@@ -25,13 +24,11 @@ pub fn content_rule()
     ensures exactly { λ _. ⌜ Exactly ⌝ }
     ensures listing { λ _. ⌜ Listing ⌝ }
     ensures past { λ _. ⌜ Past ⌝ }
-{
-}
+{}
 
 /// Some small files and pieces worked through, the pieces by a machine whose actions are paths.
 pub fn worked_files()
     ensures files { λ _. ⌜ Files ⌝ }
     ensures pieces { λ _. ⌜ Pieces ⌝ }
     ensures machine { λ _. ⌜ EveryVerdict ⌝ }
-{
-}
+{}
