@@ -17,7 +17,7 @@ use Rattle.rows.specs.declared.row.RowKind.{RowKind}
 use Rattle.rows.specs.declared.row.RowKind.the-variants.{Close, Open, Done}
 use Rattle.rows.specs.declared.row.Row.{Row}
 use Rattle.rows.specs.declared.row.PieceFault.the-variants.{BadTag}
-use Rattle.rows.specs.Pieces.{Entry, Content, put}
+use Rattle.rows.specs.Pieces.{Content, put}
 
 -- each mark with the next one: a stretch begins at the first and ends before the second
 abbrev pub pairs : List ℕ → List (ℕ × ℕ)
