@@ -1,6 +1,8 @@
+pub mod Names
 pub mod Joins
 pub mod Cuts
 pub mod Wholes
+pub mod Stored
 pub mod Past
 pub mod Seen
 pub mod Tagged

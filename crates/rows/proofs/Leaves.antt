@@ -3,8 +3,9 @@ use mathlib.Core.Path.{_≡_, refl, sym, ap, subst, _∙_}
 use mathlib.Core.List.{List, [], _∷_, _++_, map, append-assoc}
 use Prim.Native.Nat.{ℕ, _+_, _-_, _<_, _≤_}
 use native.Mathlib.Omega.{arith}
+use borrow.Rule.Slice.PartMut.{putMid}
 use lib.ListN.{length, getD, take, drop}
-use Rattle.std.proofs.shelf.Lists.{length-take-le, length-take, length-drop, length-append, take-append-drop, getD-append-left}
+use Rattle.std.proofs.shelf.Lists.{length-take-le, length-take, length-drop, length-append, take-append-drop, drop-drop, getD-append-left, getD-append-add}
 use Rattle.rows.specs.declared.row.Row.{Row}
 use Rattle.rows.specs.declared.part.Kept.{Kept}
 use Rattle.rows.specs.Pieces.{Entry, Content, Inside}
@@ -60,3 +61,16 @@ module _ {P : Type 0} where
 
 pub rule-front : (file : List ℕ) (ys zs : List Row) (from n : ℕ) → from + n ≤ length ys → RowRule file ys from n → RowRule file (ys ++ zs) from n
 rule-front file ys zs from n h f k l = subst (Inside file) (sym (getD-append-left ys zs no-row (from + k) (omega arith))) (f k l)
+
+-- the list after its part from one place to another was written
+pub mid-is : {X : Type 0} (old ys : List X) (from marks : ℕ) → putMid from (from + marks - from) old ys ≡ take from old ++ (ys ++ drop (from + marks) old)
+mid-is old ys from marks =
+    let e : from + marks - from ≡ marks = omega arith in
+    ap (λ k. take from old ++ (ys ++ drop k (drop from old))) e ∙ ap (λ x. take from old ++ (ys ++ x)) (drop-drop marks from old)
+
+pub rule-mid : (file : List ℕ) (old ys zs : List Row) (from n : ℕ) → from ≤ length old → n ≤ length ys → ((k : ℕ) → k < n → Inside file (at ys k)) → RowRule file (take from old ++ (ys ++ zs)) from n
+rule-mid file old ys zs from n h l f k b =
+    let size = length-take-le from old h in
+    subst (Inside file)
+    (sym (ap (λ i. at (take from old ++ (ys ++ zs)) (i + k)) (sym size) ∙ getD-append-add (take from old) (ys ++ zs) k no-row ∙ getD-append-left ys zs no-row k (omega arith)))
+    (f k b)

@@ -1,4 +1,3 @@
-pub mod Shown
 pub mod Bytes
 pub mod Pairs
 pub mod Steps
@@ -8,6 +7,9 @@ pub mod Puts
 pub mod Rules
 pub mod Copies
 pub mod Leaves
+pub mod Rings
+pub mod Readers
+pub mod Marking
 pub mod Mids
 pub mod Regions
 pub mod Tags

@@ -3,3 +3,5 @@ pub mod Stretches
 pub mod Places
 pub mod Made
 pub mod Lists
+pub mod Opens
+pub mod Reading

@@ -2,9 +2,11 @@
 pub mod joining;
 pub mod keeping;
 pub mod names;
+pub mod opens;
 pub mod part;
 pub mod places;
 pub mod putting;
+pub mod reading;
 pub mod row;
 pub mod tagging;
 
