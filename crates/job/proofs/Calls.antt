@@ -1,7 +1,7 @@
 -- What a call may go on with, once it is allowed.
 use mathlib.Core.Path.{_≡_, refl, sym, ap, subst, _∙_}
 use mathlib.Core.Bool.{Bool, true, false, cond}
-use mathlib.Core.List.{List}
+use mathlib.Core.List.{List, [], _∷_}
 use Prim.Native.Nat.{ℕ, _+_, _-_, _<_, _≤_}
 use native.Mathlib.Omega.{arith}
 use lib.Dec.{eqb}
@@ -10,10 +10,10 @@ use Rattle.std.specs.declared.option.Option.{Option}
 use Rattle.std.specs.declared.option.Option.the-variants.{Some, None}
 use Rattle.std.specs.declared.result.Result.{Result}
 use Rattle.std.specs.declared.result.Result.the-variants.{Ok, Err}
-use Rattle.std.specs.Results.{ErrBy}
-use Rattle.std.proofs.shelf.Results.{err-from-errBy}
 use Rattle.std.proofs.shelf.Ways.{tells}
-use Rattle.std.proofs.shelf.Lists.{length-take-le, getD-take}
+use Rattle.std.proofs.shelf.Lists.{length-take, length-drop, length-take-le, getD-take}
+use Rattle.tags.specs.Bytes.{mark}
+use Rattle.tags.specs.Marks.{marks, part, marksOf, scanned}
 use Rattle.machine.specs.declared.refusal.Refusal.{Refusal}
 use Rattle.rows.specs.declared.row.Row.{Row}
 use Rattle.rows.specs.Stretches.{joined-ends}
@@ -23,8 +23,8 @@ use Rattle.rows.specs.Pieces.{Content}
 use Rattle.job.specs.declared.piece.Piece.{Piece}
 use Rattle.job.specs.declared.job.Job.{Job}
 use Rattle.job.specs.Pieces.{InPlace, no-piece}
-use Rattle.job.specs.State.{State, World, world, seen, nth-piece, joined-marks, ruled, allowed, asked-join, with-kept, Turns, Refused, Unchanged, Accepted}
-use Rattle.job.proofs.Asked.{turns-some, join-free}
+use Rattle.job.specs.State.{State, World, world, seen, nth-piece, joined-marks, ruled, allowed, asked-read, asked-join, with-kept, Turns, Refused, Unchanged, Accepted}
+use Rattle.job.proofs.Asked.{turns-some, read-free, join-free}
 use Rattle.job.proofs.Ruled.{rule-of}
 
 module _ {X : Type 0} where
@@ -122,3 +122,53 @@ made-piece w v from to marks got c kept number n e f g h left = record {
   rows = subst (λ k. Written (w .job .used) k (rows-of c) (w .rows) (v .rows)) (sym h) (left .rows-are);
   actions = subst (λ k. Written (w .job .used) k (actions-of c) (w .actions) (v .actions)) (sym h) (left .actions-are);
 }
+
+marks-one : (t : Bool) (at b : ℕ) (ms bs : List ℕ) → length ms ≤ length bs → length (cond t (at ∷ ms) ms) ≤ length (b ∷ bs)
+marks-one true at b ms bs h = omega arith
+marks-one false at b ms bs h = omega arith
+
+marks-few : (bs : List ℕ) (at : ℕ) → length (marks bs at) ≤ length bs
+marks-few [] at = omega arith
+marks-few (b ∷ bs) at = marks-one (mark b) at b (marks bs (at + 1)) bs (marks-few bs (at + 1))
+
+-- there are no more marks than bytes
+pub count-few : (file : List ℕ) (from to : ℕ) → scanned file from to .2 ≤ to - from
+count-few file from to =
+    let a = marks-few (part file from to) from in
+    let b : length (part file from to) ≤ to - from = simp (length-take, length-drop) (omega arith) in
+    omega arith
+
+-- what a read was told, where it is allowed
+pub record ReadTold {P : Type 0} (file : List ℕ) (j : Job) (rs : List Row) (ps : List P) (from to : ℕ) (told : ℕ × ℕ × ℕ) : Type 0 where
+  pub none : asked-read file (world j rs ps) from to ≡ None
+  pub is : told ≡ scanned file from to
+  pub count : told .2 ≡ length (marksOf file from to)
+  pub bytes : length file < 4294967296
+  pub order : from ≤ to
+  pub end : to ≤ j .size
+  pub within : to ≤ length file
+  pub few : j .made < 128
+  pub in-rows : j .used + told .2 ≤ length rs
+  pub in-acts : j .used + told .2 ≤ length ps
+  pub marks : told .2 ≤ to - from
+
+pub read-told : {P : Type 0} (file : List ℕ) (j : Job) (rs : List Row) (ps : List P) (from to : ℕ) (told : ℕ × ℕ × ℕ) (q : Result (ℕ × ℕ × ℕ) Refusal) →
+    q ≡ allowed (asked-read file (world j rs ps) from to) (scanned file from to) → q ≡ Ok told → ReadTold file j rs ps from to told
+read-told file j rs ps from to told q e f =
+    let a = allowed-none (asked-read file (world j rs ps) from to) (scanned file from to) told q e f in
+    let free = read-free file (world j rs ps) from to (a .0) in
+    let n : told .2 ≡ length (marksOf file from to) = ap (λ x. x .2) (a .1) in
+    let same = free .reaches .same in
+    record {
+      none = a .0;
+      is = a .1;
+      count = n;
+      bytes = (let b = j .short in omega arith);
+      order = free .order;
+      end = free .end;
+      within = (let b = free .end in omega arith);
+      few = (let b = free .roomy .few in let k = count-made j in omega arith);
+      in-rows = (let b = free .roomy .in-rows in omega arith);
+      in-acts = (let b = free .roomy .in-acts in omega arith);
+      marks = (let b = count-few file from to in omega arith);
+    }

@@ -141,7 +141,7 @@ module _ {A P : Type 0} (m : Model A P) (file : List ℕ) where
         let sk : scanned file (l .to) (k .to) ≡ scanned file (k .from) (k .to) = ap (λ x. scanned file x (k .to)) meet in
         let ck : content file m (l .to) (k .to) ≡ content file m (k .from) (k .to) = ap (λ x. content file m x (k .to)) meet in
         let cl = content file m (l .from) (l .to) in
-        let joined = join m laws file (l .from) (l .to) (k .to) ol (omega arith) end in
+        let joined = join m (laws .assoc) file (l .from) (l .to) (k .to) ol (omega arith) end in
         let ml : marks-of l ≡ sl = al .marks in
         let mk : marks-of k ≡ scanned file (l .to) (k .to) = ak .marks ∙ sym sk in
         let hk : content-at w k ≡ mapped (m .plain) (content file m (l .to) (k .to)) = holds w k ak ∙ ap (mapped (m .plain)) (sym ck) in
@@ -181,7 +181,7 @@ module _ {A P : Type 0} (m : Model A P) (file : List ℕ) where
         ∙ ap (λ x. finish (stored m) (last-put file (stored m) s x)) c-is
         ∙ ap (finish (stored m)) (last-mapped (m .plain) m (stored m) (plain-keeps m laws) file s c)
         ∙ finish-mapped (m .plain) m (stored m) (plain-keeps m laws) file (last-put file m s c)
-        ∙ whole m laws file
+        ∙ whole m (laws .marks-path) file
 
     finish-own : (w : World P) (piece : ℕ) (ms : List Match) (a : Answer) (ns : List Match) → Sound m file w → Finish-says file m w piece ms (Ok a) ns → Ended (own (m .verdict) file) ms (Ok a) ns
     finish-own w piece ms a ns sound says = go (asked-finish file m w piece (length ms)) refl says
