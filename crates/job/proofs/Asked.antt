@@ -13,10 +13,9 @@ use Rattle.std.proofs.shelf.Tests.{eqb-true, leb-true, ltb-true, and-parts, cas
 use Rattle.std.proofs.shelf.Lists.{getD-set-same, getD-set-other}
 use Rattle.tags.specs.Marks.{scanned}
 use Rattle.machine.specs.declared.refusal.Refusal.{Refusal}
-use Rattle.machine.specs.Model.{Model}
 use Rattle.job.specs.declared.piece.Piece.{Piece}
 use Rattle.job.specs.Pieces.{InPlace, no-piece}
-use Rattle.job.specs.State.{State, World, nth-piece, joined-marks, finished, ruled, ask, asked-lists, asked-room, asked-matches, asked-read, asked-join, asked-finish, Turns}
+use Rattle.job.specs.State.{State, World, nth-piece, joined-marks, ruled, ask, asked-lists, asked-room, asked-whole, asked-read, asked-join, Turns}
 
 pub asked-yes : (b : Bool) (why : Refusal) (later : Option Refusal) → ask b why later ≡ None → (b ≡ true) × (later ≡ None)
 asked-yes true why later e = (refl, e)
@@ -96,24 +95,29 @@ module _ {P : Type 0} (file : List ℕ) (w : World P) where
         roomy = room (w .job) (length (w .rows)) (length (w .actions)) (joined-marks l r .2) (u .1);
       }
 
-  module _ {A : Type 0} (m : Model A P) where
-    pub record FinishFree (piece spare : ℕ) : Type 0 where
-      pub reaches : Reach (w .job) (length file) (length (w .rows)) (length (w .actions))
-      pub made : piece < length (w .job .pieces)
-      pub first : nth-piece (w .job) piece .from ≡ 0
-      pub last : nth-piece (w .job) piece .to ≡ w .job .size
-      pub rule : ruled file (w .rows) (nth-piece (w .job) piece) ≡ true
-      pub fits : asked-matches (finished file m w (nth-piece (w .job) piece)) spare ≡ None
+  pub record FinishFree (piece : ℕ) : Type 0 where
+    pub reaches : Reach (w .job) (length file) (length (w .rows)) (length (w .actions))
+    pub made : piece < length (w .job .pieces)
+    pub first : nth-piece (w .job) piece .from ≡ 0
+    pub last : nth-piece (w .job) piece .to ≡ w .job .size
+    pub rule : ruled file (w .rows) (nth-piece (w .job) piece) ≡ true
 
-    pub finish-free : (piece spare : ℕ) → asked-finish file m w piece spare ≡ None → FinishFree piece spare
-    finish-free piece spare h =
-        let q = nth-piece (w .job) piece in
-        let x = reach (w .job) (length file) (length (w .rows)) (length (w .actions)) _ h in
-        let y = asked-yes (ltb piece (length (w .job .pieces))) _ _ (x .1) in
-        let z = asked-yes (eqb (q .from) 0 && eqb (q .to) (w .job .size)) _ _ (y .1) in
-        let p = and-parts (eqb (q .from) 0) (eqb (q .to) (w .job .size)) (z .0) in
-        let u = asked-yes (ruled file (w .rows) q) _ _ (z .1) in
-        record { reaches = x .0; made = ltb-true _ _ (y .0); first = eqb-true _ _ (p .0); last = eqb-true _ _ (p .1); rule = u .0; fits = u .1 }
+  pub finish-free : (piece : ℕ) (later : Option Refusal) → asked-whole file w piece later ≡ None → FinishFree piece × (later ≡ None)
+  finish-free piece later h =
+      let q = nth-piece (w .job) piece in
+      let x = reach (w .job) (length file) (length (w .rows)) (length (w .actions)) _ h in
+      let y = asked-yes (ltb piece (length (w .job .pieces))) _ _ (x .1) in
+      let z = asked-yes (eqb (q .from) 0 && eqb (q .to) (w .job .size)) _ _ (y .1) in
+      let p = and-parts (eqb (q .from) 0) (eqb (q .to) (w .job .size)) (z .0) in
+      let u = asked-yes (ruled file (w .rows) q) _ _ (z .1) in
+      (record { reaches = x .0; made = ltb-true _ _ (y .0); first = eqb-true _ _ (p .0); last = eqb-true _ _ (p .1); rule = u .0 }, u .1)
+
+  -- what is asked later only counts where nothing is refused before
+  pub whole-later : (piece : ℕ) (later : Option Refusal) → asked-whole file w piece None ≡ None → asked-whole file w piece later ≡ later
+  whole-later piece later e = grind arith
+
+  pub whole-refused : (piece : ℕ) (later : Option Refusal) (why : Refusal) → asked-whole file w piece None ≡ Some why → asked-whole file w piece later ≡ Some why
+  whole-refused piece later why e = grind arith
 
 -- one more piece lies in its place
 pub placed-more : (size used new n : ℕ) (ps : List Piece) (p : Piece) → n < length ps → used ≤ new →

@@ -23,7 +23,7 @@ use Rattle.rows.specs.Pieces.{Content}
 use Rattle.job.specs.declared.piece.Piece.{Piece}
 use Rattle.job.specs.declared.job.Job.{Job}
 use Rattle.job.specs.Pieces.{InPlace, no-piece}
-use Rattle.job.specs.State.{State, World, world, seen, nth-piece, joined-marks, ruled, allowed, asked-read, asked-join, with-kept, Turns, Refused, Unchanged, Accepted}
+use Rattle.job.specs.State.{State, World, world, seen, nth-piece, joined-marks, ruled, allowed, asked-open, asked-read, asked-join, opened, Open-says, with-kept, Turns, Refused, Unchanged, Accepted}
 use Rattle.job.proofs.Asked.{turns-some, read-free, join-free}
 use Rattle.job.proofs.Ruled.{rule-of}
 
@@ -172,3 +172,11 @@ read-told file j rs ps from to told q e f =
       in-acts = (let b = free .roomy .in-acts in omega arith);
       marks = (let b = count-few file from to in omega arith);
     }
+
+-- a job that is opened
+pub opened-now : (size : ℕ) (j : State) (r : Result (Unit {0}) Refusal) (v : State) → Open-says size j r v → r ≡ Ok tt → (asked-open size ≡ None) × (v ≡ opened size)
+opened-now size j r v says e = go (asked-open size) refl says
+  where
+    go : (o : Option Refusal) → asked-open size ≡ o → Turns o (λ why. Refused why j r v) ((r ≡ Ok tt) × (v ≡ opened size)) → (asked-open size ≡ None) × (v ≡ opened size)
+    go (Some why) q t = absurd (let x = t .reply in let z : _≡_ {A = ℕ} 0 1 = cc in omega arith)
+    go None q t = (q, t .1)

@@ -2,6 +2,6 @@ pub mod Mapped
 pub mod Splices
 pub mod Held
 pub mod Asked
-pub mod Running
+pub mod Faithful
 pub mod Ruled
 pub mod Calls

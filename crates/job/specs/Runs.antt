@@ -25,7 +25,7 @@ use Rattle.job.specs.declared.steps.Reply.the-variants.{Made, Answered}
 use Rattle.job.specs.declared.steps.Step.{Step}
 use Rattle.job.specs.declared.job.Job.{Job}
 use Rattle.job.specs.Contents.{mapped}
-use Rattle.job.specs.State.{World, world, opened, nth-piece, marks-of, Read-says, Join-says, Finish-says, Ended}
+use Rattle.job.specs.State.{World, world, opened, nth-piece, marks-of, asked-open, Turns, Refused, Read-says, Join-says, Finish-says, Ended}
 
 -- all that a run goes on with
 pub record Stage (P : Type 0) : Type 0 where
@@ -100,6 +100,24 @@ pub record Run {A P : Type 0} (m : Model A P) (file : List ℕ) (w : Stage P) (a
       nth-piece (v .held .job) k .from ≡ nth-piece (v .held .job) l .from → nth-piece (v .held .job) k .to ≡ nth-piece (v .held .job) l .to →
       Alike (v .held) (nth-piece (v .held .job) k) (nth-piece (v .held .job) l)
 
+-- all that a run may change
+pub record Lent (P : Type 0) : Type 0 where
+  pub job : Job
+  pub rows : List Row
+  pub actions : List P
+  pub matches : List Match
+  pub steps : List Step
+
+abbrev pub lent : {P : Type 0} → Job → List Row → List P → List Match → List Step → Lent P
+lent j rs ps ms ss = record { job = j; rows = rs; actions = ps; matches = ms; steps = ss }
+
+-- the whole law: a file over the limit is refused, and then nothing has changed; else the steps are run, from a new job on
+abbrev pub Run-says : {A P : Type 0} → List ℕ → Model A P → Lent P → Result (Unit {0}) Refusal → Lent P → Type 0
+Run-says file m a r b =
+    Turns (asked-open (length file))
+    (λ why. Refused why a r b)
+    ((r ≡ Ok tt) × Run m file (begun file (a .rows) (a .actions) (a .matches)) (a .steps) (b .steps) (stage (b .job) (b .rows) (b .actions) (b .matches)))
+
 -- a job for a file, with lists that hold of every piece what a read of its bytes gives
 pub record Sound {A P : Type 0} (m : Model A P) (file : List ℕ) (w : World P) : Type 0 where
   pub same : w .job .size ≡ length file
@@ -107,9 +125,9 @@ pub record Sound {A P : Type 0} (m : Model A P) (file : List ℕ) (w : World P) 
   pub pieces : (k : ℕ) → k < length (w .job .pieces) → AsRead m file w (nth-piece (w .job) k)
 
 -- For those who make the calls themselves: a new job is sound, and each call on a sound one is faithful and leaves it sound.
-pub record Stepwise {A P : Type 0} (m : Model A P) (file : List ℕ) : Type 0 where
-  pub begins : (rs : List Row) (ps : List P) (ms : List Match) → Sound m file (begun file rs ps ms .held)
-  pub goes : (w : Stage P) (s : Step) (v : Stage P) → Sound m file (w .held) → Does m file w s v → Faithfully m file w s v × Sound m file (v .held)
+pub record Stepwise {A P : Type 0} (m : Model A P) : Type 0 where
+  pub begins : (file : List ℕ) (rs : List Row) (ps : List P) (ms : List Match) → Sound m file (begun file rs ps ms .held)
+  pub goes : (file : List ℕ) (w : Stage P) (s : Step) (v : Stage P) → Sound m file (w .held) → Does m file w s v → Faithfully m file w s v × Sound m file (v .held)
 
 -- The same of definitions alone: whatever steps do what their calls say, from a new job on, do it faithfully.
 abbrev pub AlwaysFaithful : {A P : Type 0} → Model A P → Type 0

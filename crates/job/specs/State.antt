@@ -116,20 +116,23 @@ asked-join file w left right =
     (ask (ruled file (w .rows) l && ruled file (w .rows) r) RowsBroken
     (asked-room j (length (w .rows)) (length (w .actions)) (joined-marks l r .2)))))
 
+-- a finish of a piece, before it is known what the file answers
+abbrev pub asked-whole : {P : Type 0} → List ℕ → World P → ℕ → Option Refusal → Option Refusal
+asked-whole file w piece later =
+    let j = w .job in
+    let p = nth-piece j piece in
+    asked-lists j (length file) (length (w .rows)) (length (w .actions))
+    (ask (ltb piece (length (j .pieces))) NoSuchPiece
+    (ask (eqb (p .from) 0 && eqb (p .to) (j .size)) NotWhole
+    (ask (ruled file (w .rows) p) RowsBroken later)))
+
 -- only matches want room in the match list
 abbrev pub asked-matches : Result (List Match) Fault → ℕ → Option Refusal
 asked-matches (Ok ms) room = ask (leb (length ms) room) NoRoomForMatches None
 asked-matches (Err f) room = None
 
 abbrev pub asked-finish : {A P : Type 0} → List ℕ → Model A P → World P → ℕ → ℕ → Option Refusal
-asked-finish file m w piece room =
-    let j = w .job in
-    let p = nth-piece j piece in
-    asked-lists j (length file) (length (w .rows)) (length (w .actions))
-    (ask (ltb piece (length (j .pieces))) NoSuchPiece
-    (ask (eqb (p .from) 0 && eqb (p .to) (j .size)) NotWhole
-    (ask (ruled file (w .rows) p) RowsBroken
-    (asked-matches (finished file m w p) room))))
+asked-finish file m w piece room = asked-whole file w piece (asked-matches (finished file m w (nth-piece (w .job) piece)) room)
 
 -- refused by the first question that is answered no, or accepted
 abbrev pub Turns : Option Refusal → (Refusal → Type 0) → Type 0 → Type 0

@@ -5,7 +5,7 @@ ghost use Prim.Native.Nat.{ℕ, _+_, _-_, _<_, _≤_};
 ghost use lib.ListN.{length};
 ghost use Rattle.std.specs.declared.option.Option.the-variants.{None};
 ghost use Rattle.tags.specs.Marks.{scanned};
-ghost use Rattle.job.specs.State.{seen, world, all-inside, ruled, allowed, asked-lists, asked-room, asked-read, asked-join, nth-piece};
+ghost use Rattle.job.specs.State.{seen, world, all-inside, ruled, allowed, asked-lists, asked-room, asked-read, asked-join, asked-whole, nth-piece};
 use crate::job::Job;
 use crate::piece::Piece;
 use machine::Refusal;
@@ -102,5 +102,25 @@ impl Job {
             return Err(why);
         }
         Ok((l, r))
+    }
+
+    /// Asks what a finish asks before it looks at the rows, and tells the piece.
+    pub(super) fn ask_finish<P>(&self, file: &[u8], rows: &[Row], actions: &[P], piece: usize) -> Result<Piece, Refusal>
+        ensures { λ r. ⌜ r ≡ allowed (asked-whole (now (file .entry)) (world (now (self .entry)) (now (rows .entry)) (now (actions .entry))) piece None) (nth-piece (seen (now (self .entry))) piece) ⌝ }
+    {
+        if let Some(why) = self.ask_lists(file.len(), rows.len(), actions.len()) {
+            return Err(why);
+        }
+        if piece >= self.made {
+            return Err(Refusal::NoSuchPiece);
+        }
+        let p = self.piece(piece);
+        if p.from != 0 || p.to != self.size {
+            return Err(Refusal::NotWhole);
+        }
+        if !ruled(file, rows, p) {
+            return Err(Refusal::RowsBroken);
+        }
+        Ok(p)
     }
 }

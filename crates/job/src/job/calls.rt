@@ -4,8 +4,10 @@ ghost use mathlib.Core.List.{[], _∷_, _++_};
 ghost use Prim.Native.Nat.{ℕ, _+_, _-_, _<_, _≤_, _^_};
 ghost use Rattle.rows.specs.Stretches.{joined-ends};
 ghost use Rattle.rows.specs.Lists.{ends-of};
-ghost use Rattle.job.specs.State.{world, Unchanged, Read-says, Join-says};
+ghost use Rattle.job.specs.State.{world, Unchanged, Read-says, Join-says, Finish-says};
+use crate::answer::Answer;
 use crate::job::Job;
+use answers::Match;
 use machine::Machine;
 use machine::Refusal;
 use rows::Row;
@@ -47,5 +49,14 @@ impl Job {
         let marks = joined_ends(l.part, r.part);
         let kept = join_rows(m, file, rows, actions, self.used, l.part, r.part);
         Ok(self.add(l.from, r.to, marks, kept))
+    }
+
+    /// What the file answers, from a piece that runs over all of it. Matches are written from the match list's start.
+    pub fn finish<M: Machine>(&self, m: &M, file: &[u8], rows: &[Row], actions: &[M::Plain], matches: &mut [Match], piece: usize) -> Result<Answer, Refusal>
+        ensures { λ r. ⌜ Finish-says (now (file .entry)) (model (now (m .entry))) (world (now (self .entry)) (now (rows .entry)) (now (actions .entry))) piece (now (matches .entry)) r (now (matches .exit)) ⌝ }
+    {
+        let p = self.ask_finish(file, rows, actions, piece)?;
+        let _ = p;
+        Ok(Answer::Matches(0))
     }
 }

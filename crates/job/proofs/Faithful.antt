@@ -36,7 +36,7 @@ use Rattle.job.specs.declared.steps.Reply.the-variants.{Made, Answered}
 use Rattle.job.specs.declared.steps.Step.{Step}
 use Rattle.job.specs.Pieces.{no-piece}
 use Rattle.job.specs.Contents.{mapped}
-use Rattle.job.specs.State.{State, World, nth-piece, marks-of, content-at, joined-marks, joined-content, finished, new-piece, with-piece, asked-read, asked-join, asked-finish, Turns, Accepted, Refused, Read-says, Join-says, Finish-says, Ended}
+use Rattle.job.specs.State.{State, World, nth-piece, marks-of, content-at, joined-marks, joined-content, finished, new-piece, with-piece, asked-read, asked-join, asked-matches, asked-finish, Turns, Accepted, Refused, Read-says, Join-says, Finish-says, Ended}
 use Rattle.job.specs.Runs.{Stage, begun, Does, reads, joins, finishes, Chain, none, more, Faithfully, piece-rows, piece-actions, AsRead, Lies, Alike, Sound, Run}
 use Rattle.job.proofs.Mapped.{content-mapped, joined-mapped, last-mapped, finish-mapped, plain-keeps}
 use Rattle.job.proofs.Splices.{splice-before, splice-here}
@@ -190,7 +190,7 @@ module _ {A P : Type 0} (m : Model A P) (file : List ℕ) where
           Turns o (λ why. Refused why ms (Ok a) ns) (Ended (finished file m w (nth-piece (w .job) piece)) ms (Ok a) ns) → Ended (own (m .verdict) file) ms (Ok a) ns
         go (Some why) q t = absurd (let x = t .reply in let z : _≡_ {A = ℕ} 0 1 = cc in omega arith)
         go None q t =
-            let free = finish-free file w m piece (length ms) q in
+            let free = finish-free file w piece (asked-matches (finished file m w (nth-piece (w .job) piece)) (length ms)) q .0 in
             subst (λ o. Ended o ms (Ok a) ns) (finished-whole w (nth-piece (w .job) piece) (sound .pieces piece (free .made)) (free .first) (free .last ∙ sound .same)) t
 
     -- matches are told exactly if the file follows the rule
