@@ -10,10 +10,14 @@ use Rattle.std.specs.declared.result.Result.{Result}
 use Rattle.tags.specs.declared.tag.TagKind.{TagKind}
 use Rattle.tags.specs.declared.tag.TagFault.{TagFault}
 use Rattle.tags.specs.Reads.{tagAt}
-use Rattle.machine.specs.Model.{Model, Lawful}
+use Rattle.machine.specs.Model.{Model}
 use Rattle.rows.specs.declared.row.RowKind.the-variants.{Close, Open, Done}
 use Rattle.rows.specs.Pieces.{Entry, base, close-last, is-close, closes, under, Taken, run, Content, put}
 use Rattle.rows.specs.Stretches.{made, one, eval-from, nothing, eval}
+
+-- all that a join needs of a machine
+abbrev pub Assoc : {A P : Type 0} → Model A P → Type 0
+Assoc {A} m = (a b c : A) → m .then (m .then a b) c ≡ m .then a (m .then b c)
 
 -- The rows of a list, and of two lists.
 
@@ -136,7 +140,17 @@ module _ {A : Type 0} where
     ordered-put : (b : Content A) (p : ℕ) (t : Result (TagKind × List ℕ) TagFault) → ordered (b .rows) ≡ true → ordered (put file m b (made m p t) .rows) ≡ true
     ordered-put b p t h = grind (arith, append-nil, ordered-push (b .rows), ordered-push-none (b .rows), ordered-last (b .rows), ordered-closes)
 
-    module _ (laws : Lawful m) where
+    put-nothing : (x : Content A) → put file m x nothing ≡ x
+    put-nothing x = grind (arith, append-nil)
+
+    eval-append : (c : Content A) (xs ys : List (ℕ × ℕ)) → eval-from file m c (xs ++ ys) ≡ eval-from file m (eval-from file m c xs) ys
+    eval-append c [] ys = refl
+    eval-append c (x ∷ xs) ys = eval-append (put file m c (one file m x)) xs ys
+
+    pub eval-push : (xs : List (ℕ × ℕ)) (y : ℕ × ℕ) → eval file m (xs ++ (y ∷ [])) ≡ put file m (eval file m xs) (one file m y)
+    eval-push xs y = eval-append nothing xs (y ∷ [])
+
+    module _ (assoc : Assoc m) where
       put-one : (x b : Content A) (p : ℕ) (t : Result (TagKind × List ℕ) TagFault) → ordered (b .rows) ≡ true → put file m (put file m x b) (made m p t) ≡ put file m x (put file m b (made m p t))
       put-one x b p t h =
           let ls = x .rows in
@@ -154,7 +168,7 @@ module _ {A : Type 0} where
             run-closes ls bs,
             run-close-last ls bs,
             run-base ls bs,
-            laws .assoc,
+            assoc,
           )
 
       put-from : (x b : Content A) (ys : List (ℕ × ℕ)) → ordered (b .rows) ≡ true → put file m x (eval-from file m b ys) ≡ eval-from file m (put file m x b) ys
@@ -162,16 +176,6 @@ module _ {A : Type 0} where
       put-from x b (y ∷ ys) h =
           let t = tagAt file (y .0) (y .1) in
           put-from x (put file m b (one file m y)) ys (ordered-put b (y .0) t h) ∙ ap (λ c. eval-from file m c ys) (sym (put-one x b (y .0) t h))
-
-      put-nothing : (x : Content A) → put file m x nothing ≡ x
-      put-nothing x = grind (arith, append-nil)
-
-      eval-append : (c : Content A) (xs ys : List (ℕ × ℕ)) → eval-from file m c (xs ++ ys) ≡ eval-from file m (eval-from file m c xs) ys
-      eval-append c [] ys = refl
-      eval-append c (x ∷ xs) ys = eval-append (put file m c (one file m x)) xs ys
-
-      pub eval-push : (xs : List (ℕ × ℕ)) (y : ℕ × ℕ) → eval file m (xs ++ (y ∷ [])) ≡ put file m (eval file m xs) (one file m y)
-      eval-push xs y = eval-append nothing xs (y ∷ [])
 
       pub joins : (xs ys : List (ℕ × ℕ)) → put file m (eval file m xs) (eval file m ys) ≡ eval file m (xs ++ ys)
       joins xs ys =

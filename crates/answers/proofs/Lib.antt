@@ -1,3 +1,4 @@
+pub mod Names
 pub mod Joins
 pub mod Cuts
 pub mod Wholes

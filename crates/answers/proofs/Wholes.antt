@@ -14,24 +14,28 @@ use Rattle.tags.specs.declared.tag.TagKind.{TagKind}
 use Rattle.tags.specs.declared.tag.TagKind.the-variants.{Start, Empty, End}
 use Rattle.tags.specs.declared.tag.TagFault.{TagFault}
 use Rattle.tags.specs.Reads.{tagAt}
-use Rattle.machine.specs.Model.{Model, thenAll, Lawful}
+use Rattle.machine.specs.Model.{Model, thenAll, pathAction}
 use Rattle.rows.specs.declared.row.RowKind.{RowKind}
 use Rattle.rows.specs.declared.row.RowKind.the-variants.{Close, Open, Done}
 use Rattle.rows.specs.declared.row.PieceFault.{PieceFault}
 use Rattle.rows.specs.declared.row.PieceFault.the-variants as piece
 use Rattle.rows.specs.Pieces.{name, Entry, base, close-last, closes, under, Content, put}
 use Rattle.rows.specs.Stretches.{row-of, lone, made, one, eval-from, eval, last-put}
-use Rattle.rows.proofs.Shown.{row-name}
 use Rattle.answers.specs.declared.fault.Fault.{Fault}
 use Rattle.answers.specs.declared.fault.Fault.the-variants.{Stray, Mismatch}
 use Rattle.answers.specs.declared.matches.Match.{Match}
 use Rattle.answers.specs.Own.{file-stretches, seen-at, Opened, path, Element, with-element, elements-from, matches-at, matches, judged}
 use Rattle.answers.specs.Finish.{first-close, row-matches, finish}
 use Rattle.answers.specs.Laws.{Whole, AnyCutWhole}
-use Rattle.answers.proofs.Joins.{base-append, close-last-append}
+use Rattle.answers.proofs.Names.{row-name}
+use Rattle.answers.proofs.Joins.{Assoc, base-append, close-last-append}
 use Rattle.answers.proofs.Cuts.{last-stretch, any-cut}
 
-abbrev or-later : Option ℕ → Option ℕ → Option ℕ
+-- all that finishing needs of a machine
+abbrev pub MarksPath : {A P : Type 0} → Model A P → Type 0
+MarksPath m = (n : List ℕ) (ns : List (List ℕ)) → m .marks (pathAction m n ns) ≡ m .verdict (n ∷ ns)
+
+abbrev pub or-later : Option ℕ → Option ℕ → Option ℕ
 or-later (Some p) o = Some p
 or-later None o = o
 
@@ -46,24 +50,24 @@ in-front xs (Err f) = Err f
 in-front xs (Ok ys) = Ok (xs ++ ys)
 
 module _ {A : Type 0} where
-  first-close-append : (l a : List (Entry A)) → first-close (l ++ a) ≡ or-later (first-close l) (first-close a)
+  pub first-close-append : (l a : List (Entry A)) → first-close (l ++ a) ≡ or-later (first-close l) (first-close a)
   first-close-append [] a = refl
   first-close-append (r ∷ l) a = grind (arith, first-close-append l a)
 
-  first-close-closes : (l : List (Entry A)) → first-close (closes l) ≡ first-close l
+  pub first-close-closes : (l : List (Entry A)) → first-close (closes l) ≡ first-close l
   first-close-closes [] = refl
   first-close-closes (r ∷ l) = grind (arith, first-close-closes l)
 
-  first-close-last : (l : List (Entry A)) → first-close (close-last l) ≡ first-close l
+  pub first-close-last : (l : List (Entry A)) → first-close (close-last l) ≡ first-close l
   first-close-last [] = refl
   first-close-last (r ∷ l) = grind (arith, first-close-last l)
 
   module _ {P : Type 0} (file : List ℕ) (m : Model A P) where
-    row-matches-append : (l a : List (Entry A)) → row-matches m (l ++ a) ≡ row-matches m l ++ row-matches m a
+    pub row-matches-append : (l a : List (Entry A)) → row-matches m (l ++ a) ≡ row-matches m l ++ row-matches m a
     row-matches-append [] a = refl
     row-matches-append (r ∷ l) a = grind (arith, row-matches-append l a, append-assoc)
 
-    row-matches-last : (l : List (Entry A)) → row-matches m (close-last l) ≡ row-matches m l
+    pub row-matches-last : (l : List (Entry A)) → row-matches m (close-last l) ≡ row-matches m l
     row-matches-last [] = refl
     row-matches-last (r ∷ l) = grind (arith, row-matches-last l)
 
@@ -72,7 +76,7 @@ module _ {A : Type 0} where
     put-close : (c : Content A) (q : ℕ) (t : Result (TagKind × List ℕ) TagFault) (p : ℕ) → first-close (c .rows) ≡ Some p → first-close (put file m c (made m q t) .rows) ≡ Some p
     put-close c q t p h = grind (arith, append-nil, first-close-append, first-close-closes, first-close-last)
 
-    finish-close : (c : Content A) (ys : List (ℕ × ℕ)) (p : ℕ) → first-close (c .rows) ≡ Some p → finish m (eval-from file m c ys) ≡ Err (Stray p)
+    pub finish-close : (c : Content A) (ys : List (ℕ × ℕ)) (p : ℕ) → first-close (c .rows) ≡ Some p → finish m (eval-from file m c ys) ≡ Err (Stray p)
     finish-close c [] p h = grind arith
     finish-close c (y ∷ ys) p h = finish-close (put file m c (one file m y)) ys p (put-close c (y .0) (tagAt file (y .0) (y .1)) p h)
 
@@ -83,16 +87,16 @@ module _ {A : Type 0} where
     eval-fault c [] f h = refl
     eval-fault c (y ∷ ys) f h = ap (λ x. eval-from file m x ys) (put-fault c (one file m y) f h) ∙ eval-fault c ys f h
 
-    -- the actions of names, one after another
-    abbrev joined : List (List ℕ) → A
-    joined [] = m .stay
-    joined (n ∷ ns) = m .then (m .action n) (joined ns)
+    -- the action of an element that opens under os
+    abbrev led : List Opened → List ℕ → A
+    led [] n = m .action n
+    led (o ∷ os) n = m .then (led os (o .name)) (m .action n)
 
     -- The Open rows of cs are the elements os, with their names and actions.
 
     abbrev Stacked : List (Entry A) → List Opened → Type 0
     Stacked cs [] = base cs ≡ None
-    Stacked cs (o ∷ os) = (base cs ≡ Some (entry Open (o .place) (o .name) (joined (path (o ∷ os))))) × (name file (entry Open (o .place) (o .name) (joined (path (o ∷ os))) .row) ≡ o .name) × Stacked (close-last cs) os
+    Stacked cs (o ∷ os) = (base cs ≡ Some (entry Open (o .place) (o .name) (led os (o .name)))) × (name file (entry Open (o .place) (o .name) (led os (o .name)) .row) ≡ o .name) × Stacked (close-last cs) os
 
     stacked-done : (cs : List (Entry A)) (p : ℕ) (n : List ℕ) (a : A) (os : List Opened) → Stacked cs os → Stacked (cs ++ (entry Done p n a ∷ [])) os
     stacked-done cs p n a [] st = grind (arith, base-append)
@@ -100,28 +104,33 @@ module _ {A : Type 0} where
         let moved : close-last (cs ++ (entry Done p n a ∷ [])) ≡ close-last cs ++ (entry Done p n a ∷ []) = grind (arith, close-last-append) in
         (grind (arith, base-append), st .1, subst (λ x. Stacked x os) (sym moved) (stacked-done (close-last cs) p n a os (st .2)))
 
-    stacked-open : (cs : List (Entry A)) (p : ℕ) (n : List ℕ) (os : List Opened) → name file (entry Open p n (joined (path os ++ (n ∷ []))) .row) ≡ n → Stacked cs os → Stacked (cs ++ (entry Open p n (joined (path os ++ (n ∷ []))) ∷ [])) (record { place = p; name = n } ∷ os)
+    stacked-open : (cs : List (Entry A)) (p : ℕ) (n : List ℕ) (os : List Opened) → name file (entry Open p n (led os n) .row) ≡ n → Stacked cs os → Stacked (cs ++ (entry Open p n (led os n) ∷ [])) (record { place = p; name = n } ∷ os)
     stacked-open cs p n os named st =
-        let a = joined (path os ++ (n ∷ [])) in
+        let a = led os n in
         let closed : close-last (cs ++ (entry Open p n a ∷ [])) ≡ cs ++ (entry Done p n a ∷ []) = grind (arith, close-last-append) in
         (grind (arith, base-append), named, subst (λ x. Stacked x os) (sym closed) (stacked-done cs p n a os st))
 
-    module _ (laws : Lawful m) where
-      joined-append : (ns : List (List ℕ)) (n : List ℕ) → joined (ns ++ (n ∷ [])) ≡ m .then (joined ns) (m .action n)
-      joined-append [] n = grind (arith, laws .right, laws .left)
-      joined-append (x ∷ ns) n = grind (arith, joined-append ns n, laws .assoc)
+    module _ (marks-path : MarksPath m) where
+      after-all : (a : A) (ns : List (List ℕ)) (n : List ℕ) → thenAll (m .then) (m .action) a (ns ++ (n ∷ [])) ≡ m .then (thenAll (m .then) (m .action) a ns) (m .action n)
+      after-all a [] n = refl
+      after-all a (x ∷ ns) n = after-all (m .then a (m .action x)) ns n
 
-      joined-after : (a : A) (ns : List (List ℕ)) → thenAll (m .then) (m .action) a ns ≡ m .then a (joined ns)
-      joined-after a [] = sym (laws .right a)
-      joined-after a (n ∷ ns) = joined-after (m .then a (m .action n)) ns ∙ laws .assoc a (m .action n) (joined ns)
+      -- a path of one or more names, by its first
+      abbrev Leads : A → List (List ℕ) → Type 0
+      Leads a ns = (x : List ℕ) × (xs : List (List ℕ)) × (ns ≡ x ∷ xs) × (a ≡ pathAction m x xs)
 
-      marks-joined : (ns : List (List ℕ)) (n : List ℕ) → m .marks (joined (ns ++ (n ∷ []))) ≡ m .verdict (ns ++ (n ∷ []))
-      marks-joined [] n = ap (m .marks) (sym (joined-after (m .action n) [])) ∙ laws .marks-path n []
-      marks-joined (x ∷ ns) n = ap (m .marks) (sym (joined-after (m .action x) (ns ++ (n ∷ [])))) ∙ laws .marks-path x (ns ++ (n ∷ []))
+      leads : (os : List Opened) (n : List ℕ) → Leads (led os n) (path os ++ (n ∷ []))
+      leads [] n = (n, [], refl, refl)
+      leads (o ∷ os) n =
+          let l = leads os (o .name) in
+          (l .0, l .1 ++ (n ∷ []), ap (λ ns. ns ++ (n ∷ [])) (l .2), ap (λ a. m .then a (m .action n)) (l .3) ∙ sym (after-all (m .action (l .0)) (l .1) n))
 
-      under-is : (cs : List (Entry A)) (os : List Opened) (k : RowKind) (p : ℕ) (n : List ℕ) → Stacked cs os → under m (base cs) (entry k p n (m .action n)) ≡ entry k p n (joined (path os ++ (n ∷ [])))
-      under-is cs [] k p n st = grind (arith, laws .right)
-      under-is cs (o ∷ os) k p n st = grind (arith, joined-append (path (o ∷ os)) n)
+      marks-led : (os : List Opened) (n : List ℕ) → m .marks (led os n) ≡ m .verdict (path os ++ (n ∷ []))
+      marks-led os n = let l = leads os n in ap (m .marks) (l .3) ∙ marks-path (l .0) (l .1) ∙ ap (m .verdict) (sym (l .2))
+
+      under-is : (cs : List (Entry A)) (os : List Opened) (k : RowKind) (p : ℕ) (n : List ℕ) → Stacked cs os → under m (base cs) (entry k p n (m .action n)) ≡ entry k p n (led os n)
+      under-is cs [] k p n st = grind arith
+      under-is cs (o ∷ os) k p n st = grind arith
 
       -- What is to be shown after the rows cs, with the elements os open.
       abbrev Goal : List (Entry A) → List Opened → List (ℕ × ℕ) → Type 0
@@ -137,14 +146,14 @@ module _ {A : Type 0} where
 
       -- a start tag or an empty tag, after which fs are open
       pushed : (cs : List (Entry A)) (k : RowKind) (p : ℕ) (n : List ℕ) (os fs : List Opened) (ss : List (ℕ × ℕ)) → Stacked cs os →
-          Goal (cs ++ (entry k p n (joined (path os ++ (n ∷ []))) ∷ [])) fs ss →
+          Goal (cs ++ (entry k p n (led os n) ∷ [])) fs ss →
           finish m (eval-from file m (good (cs ++ (under m (base cs) (entry k p n (m .action n)) ∷ []))) ss) ≡ in-front (row-matches m cs) (judged (m .verdict) (with-element p (path os ++ (n ∷ [])) (elements-from fs (map (seen-at file) ss))))
       pushed cs k p n os fs ss st later =
           let ns = path os ++ (n ∷ []) in
           let r = elements-from fs (map (seen-at file) ss) in
           ap (λ x. finish m (eval-from file m (good (cs ++ (x ∷ []))) ss)) (under-is cs os k p n st) ∙ later
           ∙ ap (λ l. in-front l (judged (m .verdict) r))
-            (row-matches-append cs (entry k p n (joined ns) ∷ []) ∙ ap (λ l. row-matches m cs ++ l) (append-nil (matches-at p 0 (m .marks (joined ns)))) ∙ ap (λ b. row-matches m cs ++ matches-at p 0 b) (marks-joined (path os) n))
+            (row-matches-append cs (entry k p n (led os n) ∷ []) ∙ ap (λ l. row-matches m cs ++ l) (append-nil (matches-at p 0 (m .marks (led os n)))) ∙ ap (λ b. row-matches m cs ++ matches-at p 0 b) (marks-led os n))
           ∙ judged-with (row-matches m cs) p ns r
 
       abbrev Later : List (ℕ × ℕ) → Type 0
@@ -171,7 +180,7 @@ module _ {A : Type 0} where
       step cs os p to (Ok (Start, n)) e ss later h st =
           pushed cs Open p n os (record { place = p; name = n } ∷ os) ss st (later _ _ (grind (arith, first-close-append)) (stacked-open cs p n os (row-name file p to Start n e) st))
       step cs os p to (Ok (Empty, n)) e ss later h st =
-          pushed cs Done p n os os ss st (later _ _ (grind (arith, first-close-append)) (stacked-done cs p n (joined (path os ++ (n ∷ []))) os st))
+          pushed cs Done p n os os ss st (later _ _ (grind (arith, first-close-append)) (stacked-done cs p n (led os n) os st))
       step cs [] p to (Ok (End, n)) e ss later h st =
           let c : Content A = good (cs ++ (entry Close p n (m .stay) ∷ [])) in
           let d : put file m (good cs) (lone (row-of p End n) (m .stay)) ≡ c = grind arith in
@@ -193,10 +202,10 @@ module _ {A : Type 0} where
       pub finished : (xs : List (ℕ × ℕ)) → finish m (eval file m xs) ≡ judged (m .verdict) (elements-from [] (map (seen-at file) xs))
       finished xs = walked [] [] xs refl refl ∙ front-none (judged (m .verdict) (elements-from [] (map (seen-at file) xs)))
 
-pub whole : {A P : Type 0} (m : Model A P) → Lawful m → Whole m
-whole m laws file = ap (finish m) (sym (last-stretch m laws file)) ∙ finished file m laws (file-stretches file)
+pub whole : {A P : Type 0} (m : Model A P) → MarksPath m → Whole m
+whole m marks-path file = ap (finish m) (sym (last-stretch m file)) ∙ finished file m marks-path (file-stretches file)
 
-pub any-cut-whole : {A P : Type 0} (m : Model A P) → Lawful m → AnyCutWhole m
-any-cut-whole m laws file t =
-    let u = any-cut m laws file 0 (length file) t (omega arith) in
-    (λ z. finish m (last-put file m (u .marks z) (u .contents z))) ∙ whole m laws file
+pub any-cut-whole : {A P : Type 0} (m : Model A P) → Assoc m → MarksPath m → AnyCutWhole m
+any-cut-whole m assoc marks-path file t =
+    let u = any-cut m assoc file 0 (length file) t (omega arith) in
+    (λ z. finish m (last-put file m (u .marks z) (u .contents z))) ∙ whole m marks-path file

@@ -1,4 +1,3 @@
-pub mod Shown
 pub mod Bytes
 pub mod Pairs
 pub mod Steps
@@ -6,6 +5,7 @@ pub mod Loops
 pub mod Keeps
 pub mod Puts
 pub mod Rules
+pub mod Copies
 pub mod Mids
 pub mod Regions
 pub mod Tags

@@ -1,11 +1,11 @@
 //! The rows of two pieces joined, within the lists that hold them.
 ghost use mathlib.Core.Path.{_≡_};
-ghost use Prim.Native.Nat.{ℕ, _+_, _<_, _≤_};
+ghost use Prim.Native.Nat.{ℕ, _+_, _-_, _<_, _≤_};
 ghost use lib.ListN.{length, take, drop};
 ghost use Rattle.std.specs.declared.option.Option.the-variants.{None};
 ghost use Rattle.rows.specs.Pieces.{Inside, take-row, run, seal, fault-after, put};
-ghost use Rattle.rows.specs.Stretches.{one};
-ghost use Rattle.rows.specs.Lists.{kept-at, held, RowRule};
+ghost use Rattle.rows.specs.Stretches.{one, joined-at};
+ghost use Rattle.rows.specs.Lists.{kept-at, held, ends-of, RowRule};
 ghost use Rattle.rows.specs.Places.{stored, paired, Based, at, entry, state, grown, stopped, wrote};
 use crate::keeping::keep_closes;
 use crate::part::Kept;
@@ -144,4 +144,45 @@ fn put_stretch<M: Machine>(m: &M, file: &[u8], rows: &mut [Row], actions: &mut [
         Step::Closed => Kept { rows: n, fault: None },
         Step::Mismatch => seal_from(rows, actions, used, n, Some(PieceFault::Mismatch { place: row.place as usize })),
     }
+}
+
+/// Copies a piece's rows to the places from `used` on.
+fn copy_part<P: Copy>(rows: &mut [Row], actions: &mut [P], used: usize, part: Part) -> Kept
+    requires sizes { ⌜ length (now rows) ≡ length (now actions) ⌝ }
+    requires below { ⌜ part .at + part .kept .rows ≤ used ⌝ }
+    requires room { ⌜ used + part .kept .rows ≤ length (now rows) ⌝ }
+    ensures copied { λ r. ⌜ kept-at (now (rows .exit)) (now (actions .exit)) used r ≡ held (now (rows .entry)) (now (actions .entry)) part ⌝ }
+    ensures kept { λ r. ⌜ r ≡ part .kept ⌝ }
+    ensures old { λ _. ⌜ (take used (now (rows .exit)) ≡ take used (now (rows .entry))) × (take used (now (actions .exit)) ≡ take used (now (actions .entry))) ⌝ }
+{
+    let from = part.at;
+    let end = from + part.kept.rows;
+    rows.copy_within(from..end, used);
+    actions.copy_within(from..end, used);
+    part.kept
+}
+
+/// Joins two pieces whose rows lie below `used`; the lists end where the new piece's last mark may have its row.
+fn join_rows<M: Machine>(m: &M, file: &[u8], rows: &mut [Row], actions: &mut [M::Plain], used: usize, left: Part, right: Part) -> Kept
+    requires bytes { ⌜ length (now file) < 4294967296 ⌝ }
+    requires sizes { ⌜ length (now rows) ≡ length (now actions) ⌝ }
+    requires room { ⌜ used + (left .marks + right .marks) ≤ length (now rows) ⌝ }
+    requires first { ⌜ left .at + left .kept .rows ≤ used ⌝ }
+    requires second { ⌜ right .at + right .kept .rows ≤ used ⌝ }
+    requires few { ⌜ (left .kept .rows ≤ left .marks - 1) × (right .kept .rows ≤ right .marks - 1) ⌝ }
+    requires rule { ⌜ RowRule (now file) (now rows) (left .at) (left .kept .rows) × RowRule (now file) (now rows) (right .at) (right .kept .rows) ⌝ }
+    ensures joined { λ r. ⌜ kept-at (now (rows .exit)) (now (actions .exit)) used r ≡ joined-at (now (file .entry)) (stored (model (now (m .entry)))) (ends-of left) (ends-of right) (held (now (rows .entry)) (now (actions .entry)) left) (held (now (rows .entry)) (now (actions .entry)) right) ⌝ }
+    ensures few { λ r. ⌜ r .rows ≤ left .marks + right .marks - 1 ⌝ }
+    ensures rule { λ r. ⌜ RowRule (now (file .entry)) (now (rows .exit)) used (r .rows) ⌝ }
+    ensures old { λ _. ⌜ (take used (now (rows .exit)) ≡ take used (now (rows .entry))) × (take used (now (actions .exit)) ≡ take used (now (actions .entry))) ⌝ }
+{
+    if left.marks == 0 {
+        return copy_part(rows, actions, used, right);
+    }
+    let copied = copy_part(rows, actions, used, left);
+    if right.marks == 0 {
+        return copied;
+    }
+    let between = put_stretch(m, file, rows, actions, used, copied, left.last, right.first);
+    put_part(m, file, rows, actions, used, between, right)
 }

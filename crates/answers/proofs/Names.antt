@@ -1,31 +1,25 @@
--- A row's name is the name that its tag showed, and the row keeps the row rule.
+-- A row's name is the name that its tag showed.
 use mathlib.Core.Path.{_≡_, refl, sym, ap, _∙_}
 use mathlib.Core.List.{List, [], _∷_, _++_, append-assoc}
-use Prim.Native.Nat.{ℕ, _+_, _-_, _<_, _≤_}
+use Prim.Native.Nat.{ℕ, _+_, _-_}
 use native.Mathlib.Omega.{arith}
-use lib.ListN.{length, take, drop, take-append-drop, length-drop, length-append}
+use lib.ListN.{length, take, drop, take-append-drop, length-append}
 use lib.Seq.{drop-drop, take-append-seam, drop-append-seam}
 use Rattle.std.specs.declared.result.Result.the-variants.{Ok}
 use Rattle.tags.specs.declared.tag.TagKind.{TagKind}
-use Rattle.tags.specs.declared.tag.TagKind.the-variants.{Start, Empty, End}
 use Rattle.tags.specs.Marks.{part}
 use Rattle.tags.specs.Reads.{tagAt}
 use Rattle.grammar.specs.Grammar.{Closer, plain, slashed, Tag, opens, ends}
 use Rattle.grammar.proofs.Exactly.{told}
-use Rattle.rows.specs.Pieces.{skip, name, Inside}
+use Rattle.rows.specs.Pieces.{skip, name}
 use Rattle.rows.specs.Stretches.{row-kind, row-of}
 
--- bytes that have a tag's name where its row says, and at least one more after it
+-- bytes that have a tag's name where its row says
 pub record Shaped (k : TagKind) (n xs : List ℕ) : Type 0 where
   pub front : List ℕ
   pub rest : List ℕ
   pub skipped : length front ≡ skip (row-kind k)
-  pub more : 0 < length rest
   pub split : xs ≡ front ++ (n ++ rest)
-
-closer-more : {k : TagKind} {c : List ℕ} → Closer k c → 0 < length c
-closer-more plain = omega arith
-closer-more slashed = omega arith
 
 closer-skip : {k : TagKind} {c : List ℕ} → Closer k c → 1 ≡ skip (row-kind k)
 closer-skip plain = refl
@@ -36,14 +30,12 @@ tag-shaped (opens {al} {s} {c} N As S C) = record {
   front = 60 ∷ [];
   rest = al ++ (s ++ c);
   skipped = closer-skip C;
-  more = let h = closer-more C in omega (arith, length-append al (s ++ c), length-append s c);
   split = refl;
 }
 tag-shaped (ends {s} N S) = record {
   front = 60 ∷ 47 ∷ [];
   rest = s ++ 62 ∷ [];
   skipped = refl;
-  more = omega (arith, length-append s (62 ∷ []));
   split = refl;
 }
 
@@ -52,14 +44,8 @@ shaped-more {k} {n} {xs} ys w = record {
   front = w .front;
   rest = w .rest ++ ys;
   skipped = w .skipped;
-  more = let h = w .more in omega (arith, length-append (w .rest) ys);
   split = ap (λ l. l ++ ys) (w .split) ∙ append-assoc (w .front) (n ++ w .rest) ys ∙ ap (λ l. w .front ++ l) (append-assoc n (w .rest) ys);
 }
-
-skips : (k : TagKind) → 1 ≤ skip (row-kind k)
-skips Start = omega arith
-skips Empty = omega arith
-skips End = omega arith
 
 module _ (file : List ℕ) (mark to : ℕ) (k : TagKind) (n : List ℕ) (h : tagAt file mark to ≡ Ok (k, n)) where
   -- the bytes from the mark on
@@ -69,7 +55,7 @@ module _ (file : List ℕ) (mark to : ℕ) (k : TagKind) (n : List ℕ) (h : tag
       let after = drop (to - mark) (drop mark file) in
       let e : (b .0 ++ b .1) ++ after ≡ drop mark file = ap (λ l. l ++ after) (sym (b .2)) ∙ take-append-drop (to - mark) (drop mark file) in
       let s = shaped-more after (shaped-more (b .1) (tag-shaped (b .3))) in
-      record { front = s .front; rest = s .rest; skipped = s .skipped; more = s .more; split = sym e ∙ s .split }
+      record { front = s .front; rest = s .rest; skipped = s .skipped; split = sym e ∙ s .split }
 
   pub row-name : name file (row-of mark k n) ≡ n
   row-name =
@@ -78,10 +64,3 @@ module _ (file : List ℕ) (mark to : ℕ) (k : TagKind) (n : List ℕ) (h : tag
         sym (drop-drop (skip (row-kind k)) mark file) ∙ ap (drop (skip (row-kind k))) (s .split)
         ∙ ap (λ i. drop i (s .front ++ (n ++ s .rest))) (sym (s .skipped)) ∙ drop-append-seam (s .front) (n ++ s .rest) in
       ap (take (length n)) at ∙ take-append-seam n (s .rest)
-
-  pub row-inside : Inside file (row-of mark k n)
-  row-inside =
-      let s = from-mark in
-      let m = s .more in
-      let one = skips k in
-      omega (arith, length-drop mark file, ap length (s .split), length-append (s .front) (n ++ s .rest), length-append n (s .rest), s .skipped)
