@@ -9,9 +9,10 @@ use Rattle.std.specs.declared.result.Result.the-variants.{Ok, Err}
 use Rattle.machine.specs.Model.{Model}
 use Rattle.rows.specs.declared.row.RowKind.the-variants.{Close, Open, Done}
 use Rattle.rows.specs.declared.row.Row.{Row}
-use Rattle.rows.specs.Pieces.{Entry}
-use Rattle.rows.specs.Places.{entry}
+use Rattle.rows.specs.Pieces.{Entry, Content}
+use Rattle.rows.specs.Places.{at, entry, NoneOpen, BaseAt}
 use Rattle.answers.specs.declared.fault.Fault.{Fault}
+use Rattle.answers.specs.declared.fault.Fault.the-variants.{Unclosed}
 use Rattle.answers.specs.declared.matches.Match.{Match}
 use Rattle.answers.specs.Finish.{row-matches}
 
@@ -19,6 +20,15 @@ use Rattle.answers.specs.Finish.{row-matches}
 abbrev pub first-close-row : List Row → Option ℕ
 first-close-row [] = None
 first-close-row (r ∷ rs) = elim (r .kind) [ Close ↦ Some (r .place) | Open ↦ first-close-row rs | Done ↦ first-close-row rs ]
+
+-- a fault at the last row still open among the first n
+abbrev pub LastOpen : List Row → ℕ → Result (Unit {0}) Fault → Type 0
+LastOpen rows n (Ok u) = NoneOpen rows 0 n
+LastOpen rows n (Err f) = (i : ℕ) × BaseAt rows n i × (f ≡ Unclosed (at rows i .place))
+
+-- rows with no fault
+abbrev pub open-content : {P : Type 0} → List (Entry P) → Content P
+open-content es = record { rows = es; fault = None }
 
 -- a row that the last stretch added, with its plain form
 abbrev pub last-row : {P : Type 0} → Option (Row × P) → List (Entry P)

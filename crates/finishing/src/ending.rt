@@ -1,12 +1,14 @@
 //! Whether a file's rows end in a fault.
 ghost use mathlib.Core.Path.{_≡_};
-ghost use Prim.Native.Nat.{ℕ, _≤_, _<_};
+ghost use Prim.Native.Nat.{ℕ, _+_, _≤_, _<_};
 ghost use lib.ListN.{length};
-ghost use Rattle.rows.specs.Pieces.{Inside};
-ghost use Rattle.rows.specs.Stretches.{last-put};
+ghost use Rattle.rows.specs.Pieces.{Inside, put};
+ghost use Rattle.rows.specs.Stretches.{lone, one, last-put};
 ghost use Rattle.rows.specs.Places.{stored, paired, at};
+ghost use Rattle.rows.specs.Lists.{held, ends-of, RowRule};
+ghost use Rattle.std.specs.declared.option.Option.the-variants.{None};
 ghost use Rattle.answers.specs.Finish.{finish};
-ghost use Rattle.finishing.specs.Ends.{first-close-row, answered, closing, stretched};
+ghost use Rattle.finishing.specs.Ends.{first-close-row, LastOpen, answered, open-content};
 use answers::Fault;
 use answers::fault::FaultFromPiece;
 use machine::Machine;
@@ -14,6 +16,8 @@ use rows::PieceFault;
 use rows::Row;
 use rows::RowKind;
 use rows::names::same_name;
+use rows::part::Kept;
+use rows::part::Part;
 use rows::places::last_open;
 use rows::tagging::tag_row;
 
@@ -29,13 +33,84 @@ fn first_close(rows: &[Row]) -> Option<usize>
     None
 }
 
-/// A fault if one of the first `n` rows is still open: the last one.
+/// The fault of the last row still open among the first `n`.
 fn none_open(rows: &[Row], n: usize) -> Result<(), Fault>
     requires { ⌜ n ≤ length (now rows) ⌝ }
-    ensures { λ r. ⌜ closing (now (rows .entry)) n r ⌝ }
+    ensures { λ r. ⌜ LastOpen (now (rows .entry)) n r ⌝ }
 {
     match last_open(rows, n) {
         Some(i) => Err(Fault::Unclosed { place: rows[i].place as usize }),
         None => Ok(()),
     }
+}
+
+/// What rows with no Close row among them answer where the file's last tag is the end tag `row`.
+fn end_tag<M: Machine>(m: &M, file: &[u8], rows: &[Row], actions: &[M::Plain], row: Row, plain: &M::Plain) -> Result<Option<(Row, M::Plain)>, Fault>
+    requires sizes { ⌜ length (now rows) ≡ length (now actions) ⌝ }
+    requires rule { ⌜ ((k : ℕ) → k < length (now rows) → Inside (now file) (at (now rows) k)) ⌝ }
+    requires own { ⌜ Inside (now file) row ⌝ }
+    requires kind { ⌜ row .kind ≡ RowKind.Close ⌝ }
+    requires none { ⌜ first-close-row (now rows) ≡ None ⌝ }
+    ensures { λ r. ⌜ answered (stored (model (now (m .entry)))) (paired (now (rows .entry)) (now (actions .entry))) r ≡ finish (stored (model (now (m .entry)))) (put (now (file .entry)) (stored (model (now (m .entry)))) (open-content (paired (now (rows .entry)) (now (actions .entry)))) (lone row (now (plain .entry)))) ⌝ }
+{
+    let Some(i) = last_open(rows, rows.len()) else {
+        return Err(Fault::Stray { place: row.place as usize });
+    };
+    if !same_name(file, rows[i], row) {
+        return Err(Fault::Mismatch { place: row.place as usize });
+    }
+    none_open(rows, i)?;
+    Ok(None)
+}
+
+/// What rows with no Close row among them answer where the file's last stretch begins at `mark`. The row that it adds, if any, is handed back.
+fn last_stretch<M: Machine>(m: &M, file: &[u8], rows: &[Row], actions: &[M::Plain], mark: usize) -> Result<Option<(Row, M::Plain)>, Fault>
+    requires bytes { ⌜ length (now file) < 4294967296 ⌝ }
+    requires sizes { ⌜ length (now rows) ≡ length (now actions) ⌝ }
+    requires rule { ⌜ ((k : ℕ) → k < length (now rows) → Inside (now file) (at (now rows) k)) ⌝ }
+    requires none { ⌜ first-close-row (now rows) ≡ None ⌝ }
+    ensures { λ r. ⌜ answered (stored (model (now (m .entry)))) (paired (now (rows .entry)) (now (actions .entry))) r ≡ finish (stored (model (now (m .entry)))) (put (now (file .entry)) (stored (model (now (m .entry)))) (open-content (paired (now (rows .entry)) (now (actions .entry)))) (one (now (file .entry)) (stored (model (now (m .entry)))) (mark, length (now (file .entry))))) ⌝ }
+{
+    let (row, plain) = tag_row(m, file, mark, file.len())?;
+    match row.kind {
+        RowKind::Close => end_tag(m, file, rows, actions, row, &plain),
+        RowKind::Open => Err(Fault::Unclosed { place: row.place as usize }),
+        RowKind::Done => {
+            none_open(rows, rows.len())?;
+            Ok(Some((row, plain)))
+        }
+    }
+}
+
+/// What rows answer with their fault, where the file's last mark is `last` unless it has none.
+fn ending_of<M: Machine>(m: &M, file: &[u8], rows: &[Row], actions: &[M::Plain], fault: Option<PieceFault>, first: usize, last: usize, marks: usize) -> Result<Option<(Row, M::Plain)>, Fault>
+    requires bytes { ⌜ length (now file) < 4294967296 ⌝ }
+    requires sizes { ⌜ length (now rows) ≡ length (now actions) ⌝ }
+    requires rule { ⌜ ((k : ℕ) → k < length (now rows) → Inside (now file) (at (now rows) k)) ⌝ }
+    ensures { λ r. ⌜ answered (stored (model (now (m .entry)))) (paired (now (rows .entry)) (now (actions .entry))) r ≡ finish (stored (model (now (m .entry)))) (last-put (now (file .entry)) (stored (model (now (m .entry)))) (first, last, marks) (record { rows = paired (now (rows .entry)) (now (actions .entry)); fault = fault })) ⌝ }
+{
+    if let Some(place) = first_close(rows) {
+        return Err(Fault::Stray { place });
+    }
+    if let Some(found) = fault {
+        return Err(Fault::from(found));
+    }
+    if marks == 0 {
+        none_open(rows, rows.len())?;
+        return Ok(None);
+    }
+    last_stretch(m, file, rows, actions, last)
+}
+
+/// What a piece over the whole file answers: a fault, or else the row, if any, that its last stretch adds to its own.
+pub fn ending<M: Machine>(m: &M, file: &[u8], rows: &[Row], actions: &[M::Plain], part: Part) -> Result<Option<(Row, M::Plain)>, Fault>
+    requires bytes { ⌜ length (now file) < 4294967296 ⌝ }
+    requires sizes { ⌜ length (now rows) ≡ length (now actions) ⌝ }
+    requires within { ⌜ part .at + part .kept .rows ≤ length (now rows) ⌝ }
+    requires rule { ⌜ RowRule (now file) (now rows) (part .at) (part .kept .rows) ⌝ }
+    ensures { λ r. ⌜ answered (stored (model (now (m .entry)))) (held (now (rows .entry)) (now (actions .entry)) part .rows) r ≡ finish (stored (model (now (m .entry)))) (last-put (now (file .entry)) (stored (model (now (m .entry)))) (ends-of part) (held (now (rows .entry)) (now (actions .entry)) part)) ⌝ }
+{
+    let from = part.at;
+    let to = from + part.kept.rows;
+    ending_of(m, file, &rows[from..to], &actions[from..to], part.kept.fault, part.first, part.last, part.marks)
 }
