@@ -80,9 +80,9 @@ after os {ns} {at} r q (an-element {t} {s} {c} {e = x} {r = d} {n} {es} {fs} e S
     (after-text os at (s ++ (c ++ (x ++ (d ++ r)))) e
     ∙ after-start os a (c ++ (x ++ (d ++ r))) S
     ∙ ap (with-element a (path os ++ n ∷ []))
-      (after (opened-at a n ∷ os) (x ++ (d ++ r)) (ap (λ l. l ++ n ∷ []) q) C
-      ∙ ap (in-front es) (after-match a os ((a + length s) + length c) (d ++ r) T ∙ after os r q D)
-      ∙ front-append es fs end)
+    (after (opened-at a n ∷ os) (x ++ (d ++ r)) (ap (λ l. l ++ n ∷ []) q) C
+    ∙ ap (in-front es) (after-match a os ((a + length s) + length c) (d ++ r) T ∙ after os r q D)
+    ∙ front-append es fs end)
     ∙ front-more a (path os ++ n ∷ []) (es ++ fs) end
     ∙ (λ i. in-front (placed-at a (q i ++ n ∷ []) ∷ (es ++ fs)) (answer os (to i) r)))
 

@@ -63,7 +63,7 @@ module _ {A P : Type 0} (m : Model A P) (file : List ℕ) where
       let y = of-marks (l ∷ ls) in
       let e : pairs ((k ∷ ks) ++ (l ∷ ls)) ≡ (xs ++ s ∷ []) ++ ys = pairs-append (k ∷ ks) (l ∷ ls) ∙ sym (append-assoc xs (s ∷ []) ys) in
       let both : of-marks ((k ∷ ks) ++ (l ∷ ls)) ≡ put file m (put file m x (one file m s)) y =
-        ap (eval file m) e ∙ sym (joins file m assoc (xs ++ s ∷ []) ys) ∙ ap (λ c. put file m c y) (eval-push file m xs s) in
+      ap (eval file m) e ∙ sym (joins file m assoc (xs ++ s ∷ []) ys) ∙ ap (λ c. put file m c y) (eval-push file m xs s) in
       both ∙ grind (arith, tells)
 
   of-last : (n : ℕ) (ks : List ℕ) → of-marks (ks ++ length file ∷ []) ≡ last-put file m (ends n ks) (of-marks ks)

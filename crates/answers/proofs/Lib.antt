@@ -2,6 +2,7 @@ pub mod Names
 pub mod Joins
 pub mod Cuts
 pub mod Wholes
+pub mod Stored
 pub mod Past
 pub mod Seen
 pub mod Tagged

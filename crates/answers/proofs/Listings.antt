@@ -118,9 +118,11 @@ holds-rising {at} (an-element {t} {s} {c} {e = x} {r} {es} {fs} e S H T J) =
     let mid = (a + length s) + length c in
     let hi = (mid + length x) + length r in
     let long = tag-long S in
-    let to : hi ≡ at + length (t ++ (s ++ (c ++ (x ++ r)))) = simp length-append (omega arith) in
-    (omega arith, subst (Rising (a + 1) (es ++ fs)) to
-      (rising-append (a + 1) mid hi es fs (rising-lower (a + 1) (a + length s) es mid (omega arith) (holds-rising H)) (rising-lower mid (mid + length x) fs hi (omega arith) (holds-rising J))))
+    let to : hi ≡ at + length (t ++ (s ++ (c ++ (x ++ r)))) = simp length-append (omega arith) in (
+      omega arith,
+      subst (Rising (a + 1) (es ++ fs)) to
+          (rising-append (a + 1) mid hi es fs (rising-lower (a + 1) (a + length s) es mid (omega arith) (holds-rising H)) (rising-lower mid (mid + length x) fs hi (omega arith) (holds-rising J))),
+    )
 
 -- the matches of one element and what comes after them
 pub record Follows (p q : ℕ) (ms : List Match) : Type 0 where

@@ -2,8 +2,7 @@
 use mathlib.Core.Path.{_≡_, refl, sym, ap, _∙_}
 use mathlib.Core.List.{List, [], _∷_, _++_, append-assoc}
 use Prim.Native.Nat.{ℕ, _+_, _-_}
-use native.Mathlib.Omega.{arith}
-use lib.ListN.{length, take, drop, take-append-drop, length-append}
+use lib.ListN.{length, take, drop, take-append-drop}
 use lib.Seq.{drop-drop, take-append-seam, drop-append-seam}
 use Rattle.std.specs.declared.result.Result.the-variants.{Ok}
 use Rattle.tags.specs.declared.tag.TagKind.{TagKind}
@@ -61,6 +60,6 @@ module _ (file : List ℕ) (mark to : ℕ) (k : TagKind) (n : List ℕ) (h : tag
   row-name =
       let s = from-mark in
       let at : drop (mark + skip (row-kind k)) file ≡ n ++ s .rest =
-        sym (drop-drop (skip (row-kind k)) mark file) ∙ ap (drop (skip (row-kind k))) (s .split)
-        ∙ ap (λ i. drop i (s .front ++ (n ++ s .rest))) (sym (s .skipped)) ∙ drop-append-seam (s .front) (n ++ s .rest) in
+      sym (drop-drop (skip (row-kind k)) mark file) ∙ ap (drop (skip (row-kind k))) (s .split)
+      ∙ ap (λ i. drop i (s .front ++ (n ++ s .rest))) (sym (s .skipped)) ∙ drop-append-seam (s .front) (n ++ s .rest) in
       ap (take (length n)) at ∙ take-append-seam n (s .rest)

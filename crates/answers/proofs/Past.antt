@@ -68,8 +68,8 @@ stays EndGap b h = grind (arith, tells)
 
 -- the rest after one step, cut or not
 after : (xs ys : List ℕ) (at : ℕ) (m : List ℕ) (b : ℕ) (w : State × Step) → inside (w .0) ≡ true
-  → ((s : State) (k : ℕ) (n : List ℕ) → inside s ≡ true → reads s k n (xs ++ 60 ∷ ys) ≡ reads s k n xs)
-  → goes at m b (xs ++ 60 ∷ ys) w ≡ goes at m b xs w
+    → ((s : State) (k : ℕ) (n : List ℕ) → inside s ≡ true → reads s k n (xs ++ 60 ∷ ys) ≡ reads s k n xs)
+    → goes at m b (xs ++ 60 ∷ ys) w ≡ goes at m b xs w
 after xs ys at m b (s, On) h later = later s (at + 1) (cond (inName s) (m ++ b ∷ []) m) h
 after xs ys at m b (s, Done k) h later = refl
 after xs ys at m b (s, Bad c) h later = refl

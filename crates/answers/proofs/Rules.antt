@@ -41,7 +41,7 @@ module _ (x : Fault) where
       let to : (length p + length s) + length d ≡ length (p ++ (s ++ d)) = simp length-append (omega arith) in
       rw (append-assoc, append-assoc) (refuses (s ++ (d ++ r)) A
       (after-start os (length p) (d ++ r) S ∙ ap (with-element (length p) (path os ++ n ∷ []))
-        (after os′ r refl (f .1) ∙ ap (in-front (f .0)) (ap (λ k. answer os′ k r) to ∙ h))))
+      (after os′ r refl (f .1) ∙ ap (in-front (f .0)) (ap (λ k. answer os′ k r) to ∙ h))))
 
 apart : (m n : List ℕ) → (m ≡ n → ⊥) → sameBytes m n ≡ false
 apart m n ne = elim (sameBytes m n) as (λ t. (t ≡ true → m ≡ n) → t ≡ false) [ true ↦ λ d. absurd (ne (d refl)) | false ↦ λ d. refl ] (sameBytes-decides m n .0)
@@ -81,6 +81,7 @@ well-formed verdict file ms (Err x) h R = absurd (no-ok h)
 well-formed verdict file ms (Ok es) h C = C
 
 pub accepts : Accepted
-accepts verdict file =
-    (λ p. well-formed verdict file (p .0) (elements file) (p .1) (said file),
-     λ C. let f = found [] 0 C in (matches verdict (f .0), of-told verdict file (accepted (f .1))))
+accepts verdict file = (
+  λ p. well-formed verdict file (p .0) (elements file) (p .1) (said file),
+  λ C. let f = found [] 0 C in (matches verdict (f .0), of-told verdict file (accepted (f .1))),
+)

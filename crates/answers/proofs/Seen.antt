@@ -74,7 +74,7 @@ module _ (file : List ℕ) where
       (t : Bool) → mark b ≡ t → of-marks (cond t (at ∷ marks bs (at + 1)) (marks bs (at + 1))) ≡ cond t (seen-as at (readTag (60 ∷ bs)) ∷ seen (at + 1) bs) (seen (at + 1) bs)
   one-byte b bs at h n later true e =
       let here : seen-at file (at, firstOr (length file) (marks bs (at + 1))) ≡ seen-as at (readTag (60 ∷ bs)) =
-        ap (λ l. seen-as at (readTag l)) (to-next file bs b at h n ∙ ap (λ z. z ∷ front bs) (eqb-true b 60 e)) ∙ ap (seen-as at) (read-front bs) in
+      ap (λ l. seen-as at (readTag l)) (to-next file bs b at h n ∙ ap (λ z. z ∷ front bs) (eqb-true b 60 e)) ∙ ap (seen-as at) (read-front bs) in
       ap (map (seen-at file)) (pairs-first at (marks bs (at + 1)) (length file)) ∙ (λ i. here i ∷ later i)
   one-byte b bs at h n later false e = later
 

@@ -21,6 +21,7 @@ use Rattle.rows.specs.declared.row.PieceFault.{PieceFault}
 use Rattle.rows.specs.declared.row.PieceFault.the-variants as piece
 use Rattle.rows.specs.Pieces.{name, Entry, base, close-last, closes, under, Content, put}
 use Rattle.rows.specs.Stretches.{row-of, lone, made, one, eval-from, eval, last-put}
+use Rattle.rows.proofs.Puts.{put-fault}
 use Rattle.answers.specs.declared.fault.Fault.{Fault}
 use Rattle.answers.specs.declared.fault.Fault.the-variants.{Stray, Mismatch}
 use Rattle.answers.specs.declared.matches.Match.{Match}
@@ -80,12 +81,9 @@ module _ {A : Type 0} where
     finish-close c [] p h = grind arith
     finish-close c (y ∷ ys) p h = finish-close (put file m c (one file m y)) ys p (put-close c (y .0) (tagAt file (y .0) (y .1)) p h)
 
-    put-fault : (c d : Content A) (f : PieceFault) → c .fault ≡ Some f → put file m c d ≡ c
-    put-fault c d f h = grind arith
-
     eval-fault : (c : Content A) (ys : List (ℕ × ℕ)) (f : PieceFault) → c .fault ≡ Some f → eval-from file m c ys ≡ c
     eval-fault c [] f h = refl
-    eval-fault c (y ∷ ys) f h = ap (λ x. eval-from file m x ys) (put-fault c (one file m y) f h) ∙ eval-fault c ys f h
+    eval-fault c (y ∷ ys) f h = ap (λ x. eval-from file m x ys) (put-fault file m c (one file m y) f h) ∙ eval-fault c ys f h
 
     -- the action of an element that opens under os
     abbrev led : List Opened → List ℕ → A
@@ -153,7 +151,7 @@ module _ {A : Type 0} where
           let r = elements-from fs (map (seen-at file) ss) in
           ap (λ x. finish m (eval-from file m (good (cs ++ (x ∷ []))) ss)) (under-is cs os k p n st) ∙ later
           ∙ ap (λ l. in-front l (judged (m .verdict) r))
-            (row-matches-append cs (entry k p n (led os n) ∷ []) ∙ ap (λ l. row-matches m cs ++ l) (append-nil (matches-at p 0 (m .marks (led os n)))) ∙ ap (λ b. row-matches m cs ++ matches-at p 0 b) (marks-led os n))
+          (row-matches-append cs (entry k p n (led os n) ∷ []) ∙ ap (λ l. row-matches m cs ++ l) (append-nil (matches-at p 0 (m .marks (led os n)))) ∙ ap (λ b. row-matches m cs ++ matches-at p 0 b) (marks-led os n))
           ∙ judged-with (row-matches m cs) p ns r
 
       abbrev Later : List (ℕ × ℕ) → Type 0

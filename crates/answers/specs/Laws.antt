@@ -1,12 +1,14 @@
 -- Why a file may be read in pieces: the laws of contents, for any machine.
 use mathlib.Core.Path.{_≡_}
-use mathlib.Core.List.{List, [], _∷_, _++_}
+use mathlib.Core.Bool.{Bool}
+use mathlib.Core.List.{List, [], _∷_, _++_, map}
 use Prim.Native.Nat.{ℕ, _≤_}
 use lib.ListN.{length}
 use Rattle.tags.specs.Marks.{marksOf, scanned, lastOr}
 use Rattle.machine.specs.Model.{Model}
-use Rattle.rows.specs.Pieces.{Content}
+use Rattle.rows.specs.Pieces.{Entry, Content}
 use Rattle.rows.specs.Stretches.{pairs, content, joined-ends, joined-at, last-put}
+use Rattle.rows.specs.Places.{stored}
 use Rattle.answers.specs.Own.{own}
 use Rattle.answers.specs.Finish.{finish}
 
@@ -53,10 +55,32 @@ pub record Uncut {A P : Type 0} (m : Model A P) (file : List ℕ) (a b : ℕ) (t
 abbrev pub AnyCut : {A P : Type 0} → Model A P → Type 0
 AnyCut m = (file : List ℕ) (a b : ℕ) (t : Cut a b) → b ≤ length file → Uncut m file a b t
 
--- the content of a whole file, finished, is the file's own answer by the machine's verdict
-abbrev pub Whole : {A P : Type 0} → Model A P → Type 0
-Whole m = (file : List ℕ) → finish m (last-put file m (scanned file 0 (length file)) (content file m 0 (length file))) ≡ own (m .verdict) file
+-- the content of a whole file, finished, is the file's own answer by a verdict
+abbrev pub WholeBy : {A P : Type 0} → Model A P → (List (List ℕ) → List Bool) → Type 0
+WholeBy m verdict = (file : List ℕ) → finish m (last-put file m (scanned file 0 (length file)) (content file m 0 (length file))) ≡ own verdict file
 
 -- and so it is with the file cut and joined anyhow
+abbrev pub AnyCutWholeBy : {A P : Type 0} → Model A P → (List (List ℕ) → List Bool) → Type 0
+AnyCutWholeBy m verdict = (file : List ℕ) (t : Cut 0 (length file)) → finish m (last-put file m (cut-marks file t) (cut-content file m t)) ≡ own verdict file
+
+-- by the machine's own verdict
+abbrev pub Whole : {A P : Type 0} → Model A P → Type 0
+Whole m = WholeBy m (m .verdict)
+
 abbrev pub AnyCutWhole : {A P : Type 0} → Model A P → Type 0
-AnyCutWhole m = (file : List ℕ) (t : Cut 0 (length file)) → finish m (last-put file m (cut-marks file t) (cut-content file m t)) ≡ own (m .verdict) file
+AnyCutWhole m = AnyCutWholeBy m (m .verdict)
+
+-- a content with each action in its plain form
+abbrev pub plain-entry : {A P : Type 0} → Model A P → Entry A → Entry P
+plain-entry m e = record { row = e .row; act = m .plain (e .act) }
+
+abbrev pub plain-content : {A P : Type 0} → Model A P → Content A → Content P
+plain-content m c = record { rows = map (plain-entry m) (c .rows); fault = c .fault }
+
+-- all this holds as well where the machine works on plain forms, as lists keep them
+pub record Stored {A P : Type 0} (m : Model A P) : Type 0 where
+  pub contents : (file : List ℕ) (a b : ℕ) → content file (stored m) a b ≡ plain-content m (content file m a b)
+  pub join : Join (stored m)
+  pub cuts : AnyCut (stored m)
+  pub whole : WholeBy (stored m) (m .verdict)
+  pub cuts-whole : AnyCutWholeBy (stored m) (m .verdict)

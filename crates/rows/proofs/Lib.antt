@@ -6,6 +6,7 @@ pub mod Keeps
 pub mod Puts
 pub mod Rules
 pub mod Copies
+pub mod Leaves
 pub mod Mids
 pub mod Regions
 pub mod Tags

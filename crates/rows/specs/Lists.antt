@@ -44,3 +44,9 @@ pub record Written {X : Type 0} (from marks : ℕ) (made old new : List X) : Typ
   pub free : List X
   pub fits : length made + length free ≤ marks
   pub is : new ≡ splice from (made ++ free) old
+
+-- the answer and the lists after a content was written from a place on
+pub record Leaves {P : Type 0} (from marks : ℕ) (c : Content P) (answer : Kept) (rows rows′ : List Row) (actions actions′ : List P) : Type 0 where
+  pub kept : answer ≡ kept-of c
+  pub rows-are : Written from marks (rows-of c) rows rows′
+  pub actions-are : Written from marks (actions-of c) actions actions′

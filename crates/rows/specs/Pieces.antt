@@ -44,12 +44,6 @@ pub record Entry (A : Type 0) : Type 0 where
   pub row : Row
   pub act : A
 
--- rows and plain forms in two lists, each row with the action of the plain form at its place
-abbrev pub zipped : {A P : Type 0} → Model A P → List Row → List P → List (Entry A)
-zipped m [] ps = []
-zipped m (r ∷ rs) [] = []
-zipped m (r ∷ rs) (p ∷ ps) = record { row = r; act = m .back p } ∷ zipped m rs ps
-
 -- the base: the last row still Open
 abbrev pub base : {A : Type 0} → List (Entry A) → Option (Entry A)
 base [] = None

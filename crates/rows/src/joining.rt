@@ -5,7 +5,7 @@ ghost use lib.ListN.{length, take, drop};
 ghost use Rattle.std.specs.declared.option.Option.the-variants.{None};
 ghost use Rattle.rows.specs.Pieces.{Inside, take-row, run, seal, fault-after, put};
 ghost use Rattle.rows.specs.Stretches.{one, joined-at};
-ghost use Rattle.rows.specs.Lists.{kept-at, held, ends-of, RowRule};
+ghost use Rattle.rows.specs.Lists.{kept-at, held, ends-of, RowRule, Leaves};
 ghost use Rattle.rows.specs.Places.{stored, paired, Based, at, entry, state, grown, stopped, wrote};
 use crate::keeping::keep_closes;
 use crate::part::Kept;
@@ -185,4 +185,19 @@ fn join_rows<M: Machine>(m: &M, file: &[u8], rows: &mut [Row], actions: &mut [M:
     }
     let between = put_stretch(m, file, rows, actions, used, copied, left.last, right.first);
     put_part(m, file, rows, actions, used, between, right)
+}
+
+/// Joins two pieces whose rows lie below `used`: the new piece's rows are written from there on.
+pub fn join<M: Machine>(m: &M, file: &[u8], rows: &mut [Row], actions: &mut [M::Plain], used: usize, left: Part, right: Part) -> Kept
+    requires bytes { ⌜ length (now file) < 4294967296 ⌝ }
+    requires room { ⌜ (used + (left .marks + right .marks) ≤ length (now rows)) × (used + (left .marks + right .marks) ≤ length (now actions)) ⌝ }
+    requires below { ⌜ (left .at + left .kept .rows ≤ used) × (right .at + right .kept .rows ≤ used) ⌝ }
+    requires few { ⌜ (left .kept .rows ≤ left .marks - 1) × (right .kept .rows ≤ right .marks - 1) ⌝ }
+    requires rule { ⌜ RowRule (now file) (now rows) (left .at) (left .kept .rows) × RowRule (now file) (now rows) (right .at) (right .kept .rows) ⌝ }
+    ensures left { λ r. ⌜ Leaves used (left .marks + right .marks) (joined-at (now (file .entry)) (stored (model (now (m .entry)))) (ends-of left) (ends-of right) (held (now (rows .entry)) (now (actions .entry)) left) (held (now (rows .entry)) (now (actions .entry)) right)) r (now (rows .entry)) (now (rows .exit)) (now (actions .entry)) (now (actions .exit)) ⌝ }
+    ensures few { λ r. ⌜ r .rows ≤ left .marks + right .marks - 1 ⌝ }
+    ensures rule { λ r. ⌜ RowRule (now (file .entry)) (now (rows .exit)) used (r .rows) ⌝ }
+{
+    let end = used + (left.marks + right.marks);
+    join_rows(m, file, &mut rows[..end], &mut actions[..end], used, left, right)
 }
