@@ -22,9 +22,9 @@ first-close-row [] = None
 first-close-row (r ∷ rs) = elim (r .kind) [ Close ↦ Some (r .place) | Open ↦ first-close-row rs | Done ↦ first-close-row rs ]
 
 -- a fault at the last row still open among the first n
-abbrev pub LastOpen : List Row → ℕ → Result (Unit {0}) Fault → Type 0
-LastOpen rows n (Ok u) = NoneOpen rows 0 n
-LastOpen rows n (Err f) = (i : ℕ) × BaseAt rows n i × (f ≡ Unclosed (at rows i .place))
+abbrev pub LastOpen : List Row → ℕ → Option Fault → Type 0
+LastOpen rows n None = NoneOpen rows 0 n
+LastOpen rows n (Some f) = (i : ℕ) × BaseAt rows n i × (f ≡ Unclosed (at rows i .place))
 
 -- rows with no fault
 abbrev pub open-content : {P : Type 0} → List (Entry P) → Content P
@@ -39,3 +39,8 @@ last-row (Some x) = entry (x .0) (x .1) ∷ []
 abbrev pub answered : {P Q : Type 0} → Model P Q → List (Entry P) → Result (Option (Row × P)) Fault → Result (List Match) Fault
 answered m es (Ok more) = Ok (row-matches m (es ++ last-row more))
 answered m es (Err f) = Err f
+
+-- an open row's fault, or else the matches of the rows es
+abbrev pub open-answered : {P Q : Type 0} → Model P Q → List (Entry P) → Option Fault → Result (List Match) Fault
+open-answered m es None = Ok (row-matches m es)
+open-answered m es (Some f) = Err f

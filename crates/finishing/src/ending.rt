@@ -34,14 +34,12 @@ fn first_close(rows: &[Row]) -> Option<usize>
 }
 
 /// The fault of the last row still open among the first `n`.
-fn none_open(rows: &[Row], n: usize) -> Result<(), Fault>
+fn unclosed(rows: &[Row], n: usize) -> Option<Fault>
     requires { ⌜ n ≤ length (now rows) ⌝ }
     ensures { λ r. ⌜ LastOpen (now (rows .entry)) n r ⌝ }
 {
-    match last_open(rows, n) {
-        Some(i) => Err(Fault::Unclosed { place: rows[i].place as usize }),
-        None => Ok(()),
-    }
+    let i = last_open(rows, n)?;
+    Some(Fault::Unclosed { place: rows[i].place as usize })
 }
 
 /// What rows with no Close row among them answer where the file's last tag is the end tag `row`.
@@ -59,8 +57,10 @@ fn end_tag<M: Machine>(m: &M, file: &[u8], rows: &[Row], actions: &[M::Plain], r
     if !same_name(file, rows[i], row) {
         return Err(Fault::Mismatch { place: row.place as usize });
     }
-    none_open(rows, i)?;
-    Ok(None)
+    match unclosed(rows, i) {
+        Some(fault) => Err(fault),
+        None => Ok(None),
+    }
 }
 
 /// What rows with no Close row among them answer where the file's last stretch begins at `mark`. The row that it adds, if any, is handed back.
@@ -75,10 +75,10 @@ fn last_stretch<M: Machine>(m: &M, file: &[u8], rows: &[Row], actions: &[M::Plai
     match row.kind {
         RowKind::Close => end_tag(m, file, rows, actions, row, &plain),
         RowKind::Open => Err(Fault::Unclosed { place: row.place as usize }),
-        RowKind::Done => {
-            none_open(rows, rows.len())?;
-            Ok(Some((row, plain)))
-        }
+        RowKind::Done => match unclosed(rows, rows.len()) {
+            Some(fault) => Err(fault),
+            None => Ok(Some((row, plain))),
+        },
     }
 }
 
@@ -95,11 +95,13 @@ fn ending_of<M: Machine>(m: &M, file: &[u8], rows: &[Row], actions: &[M::Plain],
     if let Some(found) = fault {
         return Err(Fault::from(found));
     }
-    if marks == 0 {
-        none_open(rows, rows.len())?;
-        return Ok(None);
+    if marks > 0 {
+        return last_stretch(m, file, rows, actions, last);
     }
-    last_stretch(m, file, rows, actions, last)
+    match unclosed(rows, rows.len()) {
+        Some(open) => Err(open),
+        None => Ok(None),
+    }
 }
 
 /// What a piece over the whole file answers: a fault, or else the row, if any, that its last stretch adds to its own.
