@@ -6,7 +6,7 @@ use Rattle.rows.specs.Places.{stored, paired}
 use Rattle.answers.specs.Finish.{finish, row-matches}
 use Rattle.finishing.proofs.Endings.{closed-before}
 use Rattle.finishing.proofs.Listed.{first-close-paired, by-fault, by-rows, by-stretch}
-use Rattle.finishing.proofs.ending.ending_of.Needs as need
+use Rattle.finishing.proofs.closing.ending_of.Needs as need
 
 pub returns-in-Some : need.returns-in-Some
 returns-in-Some g c =

@@ -14,7 +14,7 @@ use Rattle.rows.specs.Stretches.{last-put}
 use Rattle.rows.proofs.Pairs.{take-paired}
 use Rattle.answers.specs.Finish.{finish}
 use Rattle.finishing.specs.Ends.{answered}
-use Rattle.finishing.proofs.ending.ending.Needs as need
+use Rattle.finishing.proofs.closing.ending.Needs as need
 
 -- a part of the lists, paired, is that part of the pairs
 part-paired : {P : Type 0} (rs : List Row) (ps : List P) (a n : ℕ) → paired (between a (a + n) rs) (between a (a + n) ps) ≡ take n (paired (drop a rs) (drop a ps))

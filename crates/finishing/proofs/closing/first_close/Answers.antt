@@ -9,7 +9,7 @@ use Rattle.rows.specs.declared.row.RowKind.the-variants.{Close}
 use Rattle.rows.specs.declared.row.Row.{Row}
 use Rattle.rows.specs.Places.{at, no-row}
 use Rattle.finishing.specs.Ends.{first-close-row}
-use Rattle.finishing.proofs.ending.first_close.Needs as need
+use Rattle.finishing.proofs.closing.first_close.Needs as need
 
 head : (r : Row) (rs : List Row) → r .kind ≡ Close → Some (r .place) ≡ first-close-row (r ∷ rs)
 head r rs k = grind arith

@@ -5,7 +5,7 @@ use Rattle.std.specs.declared.result.Result.the-variants.{Ok}
 use Rattle.rows.specs.Places.{stored, paired}
 use Rattle.answers.specs.Finish.{row-matches}
 use Rattle.finishing.proofs.Listed.{end-stray, end-mismatch, end-closes}
-use Rattle.finishing.proofs.ending.end_tag.Needs as need
+use Rattle.finishing.proofs.closing.end_tag.Needs as need
 
 pub returns-in-rest : need.returns-in-rest
 returns-in-rest g c = end-stray (stored (g .M·Machine .model (c .args .m .now))) (c .args .rows .now) (c .args .actions .now) (c .pre .sizes) (c .pre .none) (c .args .file .now) (c .args .row) (c .args .plain .now) (c .pre .kind) (c .in-rest .ensures tt)

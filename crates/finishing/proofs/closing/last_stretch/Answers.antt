@@ -8,7 +8,7 @@ use Rattle.answers.specs.Finish.{finish}
 use Rattle.finishing.specs.Ends.{answered, open-content}
 use Rattle.finishing.proofs.Endings.{bad-last, open-last}
 use Rattle.finishing.proofs.Listed.{no-close, end-done}
-use Rattle.finishing.proofs.ending.last_stretch.Needs as need
+use Rattle.finishing.proofs.closing.last_stretch.Needs as need
 
 pub returns-in-Break-row : need.returns-in-Break-row
 returns-in-Break-row g c =
