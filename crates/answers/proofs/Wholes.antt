@@ -36,7 +36,7 @@ use Rattle.answers.proofs.Cuts.{last-stretch, any-cut}
 abbrev pub MarksPath : {A P : Type 0} → Model A P → Type 0
 MarksPath m = (n : List ℕ) (ns : List (List ℕ)) → m .marks (pathAction m n ns) ≡ m .verdict (n ∷ ns)
 
-abbrev or-later : Option ℕ → Option ℕ → Option ℕ
+abbrev pub or-later : Option ℕ → Option ℕ → Option ℕ
 or-later (Some p) o = Some p
 or-later None o = o
 
@@ -51,24 +51,24 @@ in-front xs (Err f) = Err f
 in-front xs (Ok ys) = Ok (xs ++ ys)
 
 module _ {A : Type 0} where
-  first-close-append : (l a : List (Entry A)) → first-close (l ++ a) ≡ or-later (first-close l) (first-close a)
+  pub first-close-append : (l a : List (Entry A)) → first-close (l ++ a) ≡ or-later (first-close l) (first-close a)
   first-close-append [] a = refl
   first-close-append (r ∷ l) a = grind (arith, first-close-append l a)
 
-  first-close-closes : (l : List (Entry A)) → first-close (closes l) ≡ first-close l
+  pub first-close-closes : (l : List (Entry A)) → first-close (closes l) ≡ first-close l
   first-close-closes [] = refl
   first-close-closes (r ∷ l) = grind (arith, first-close-closes l)
 
-  first-close-last : (l : List (Entry A)) → first-close (close-last l) ≡ first-close l
+  pub first-close-last : (l : List (Entry A)) → first-close (close-last l) ≡ first-close l
   first-close-last [] = refl
   first-close-last (r ∷ l) = grind (arith, first-close-last l)
 
   module _ {P : Type 0} (file : List ℕ) (m : Model A P) where
-    row-matches-append : (l a : List (Entry A)) → row-matches m (l ++ a) ≡ row-matches m l ++ row-matches m a
+    pub row-matches-append : (l a : List (Entry A)) → row-matches m (l ++ a) ≡ row-matches m l ++ row-matches m a
     row-matches-append [] a = refl
     row-matches-append (r ∷ l) a = grind (arith, row-matches-append l a, append-assoc)
 
-    row-matches-last : (l : List (Entry A)) → row-matches m (close-last l) ≡ row-matches m l
+    pub row-matches-last : (l : List (Entry A)) → row-matches m (close-last l) ≡ row-matches m l
     row-matches-last [] = refl
     row-matches-last (r ∷ l) = grind (arith, row-matches-last l)
 
@@ -77,7 +77,7 @@ module _ {A : Type 0} where
     put-close : (c : Content A) (q : ℕ) (t : Result (TagKind × List ℕ) TagFault) (p : ℕ) → first-close (c .rows) ≡ Some p → first-close (put file m c (made m q t) .rows) ≡ Some p
     put-close c q t p h = grind (arith, append-nil, first-close-append, first-close-closes, first-close-last)
 
-    finish-close : (c : Content A) (ys : List (ℕ × ℕ)) (p : ℕ) → first-close (c .rows) ≡ Some p → finish m (eval-from file m c ys) ≡ Err (Stray p)
+    pub finish-close : (c : Content A) (ys : List (ℕ × ℕ)) (p : ℕ) → first-close (c .rows) ≡ Some p → finish m (eval-from file m c ys) ≡ Err (Stray p)
     finish-close c [] p h = grind arith
     finish-close c (y ∷ ys) p h = finish-close (put file m c (one file m y)) ys p (put-close c (y .0) (tagAt file (y .0) (y .1)) p h)
 
