@@ -1,0 +1,33 @@
+-- How sets of positions move on names.
+use mathlib.Core.Bool.{Bool, true, false, cond}
+use mathlib.Core.List.{List, [], _∷_, _++_, map}
+use Prim.Native.Nat.{ℕ, suc, _+_, _-_, _/_, _%_}
+use lib.Dec.{eqb}
+use lib.Bits.{bitOr}
+use lib.ListN.{length, getD, replicate}
+use Rattle.machine.specs.declared.position.Position.{Position}
+use Rattle.machine.specs.Queries.{Query, deepAt}
+use Rattle.machine.specs.Masks.{mask, moved}
+
+-- the rows that the bits of `set` name, lowest first, in one
+abbrev pub picked : ℕ → List ℕ → ℕ
+picked set [] = 0
+picked set (row ∷ rows) = bitOr (cond (eqb (set % 2) 1) row 0) (picked (set / 2) rows)
+
+-- the set after a name of the column c: `fits` has the mask of each column, `stays` the positions that lead to themselves
+unfoldable pub movedOn : List ℕ → ℕ → ℕ → ℕ → ℕ
+movedOn fits stays set c = moved (getD fits c 0) stays set
+
+-- the set after names, given by their columns
+abbrev pub runBy : (ℕ → ℕ → ℕ) → ℕ → List ℕ → ℕ
+runBy next set [] = set
+runBy next set (c ∷ cs) = runBy next (next set c) cs
+
+-- the first position of each query, that of the first query being o
+abbrev pub firsts : ℕ → List Query → List ℕ
+firsts o [] = []
+firsts o (q ∷ qs) = o ∷ firsts (o + length q + 1) qs
+
+-- the positions, of n in all, that lead to themselves: those before `//`, and the unused ones
+abbrev pub restMask : ℕ → List Position → ℕ
+restMask n ps = mask (map deepAt ps ++ replicate (n - length ps) true)

@@ -1,0 +1,5 @@
+//! The machine of relations: its action says of each pair of positions whether the first leads to the second.
+pub mod action;
+pub mod compose;
+
+pub use action::RelationAction;
