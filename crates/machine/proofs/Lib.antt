@@ -1,2 +1,4 @@
 pub mod Runs
 pub mod Stands
+pub mod Columns
+pub mod Viewed

@@ -2,3 +2,5 @@ pub mod Model
 pub mod Paths
 pub mod Queries
 pub mod Masks
+pub mod Limits
+pub mod Views

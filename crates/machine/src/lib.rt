@@ -1,6 +1,9 @@
 //! What a machine for path queries is: its interface and its laws, the path rule, and the queries of a text.
 pub mod laws;
+pub mod lookup;
 pub mod machine;
+pub mod name;
+pub mod names;
 pub mod position;
 
 pub use laws::path_rule;
