@@ -6,13 +6,16 @@ use mathlib.Core.List.{List, [], _∷_, map}
 use Prim.Native.Nat.{ℕ, suc, _+_, _<_}
 use native.Mathlib.Omega.{arith}
 use lib.Dec.{eqb}
-use lib.ListN.{length}
+use lib.ListN.{length, take, length-map}
 use Rattle.std.specs.shelf.Lists.{All}
 use Rattle.std.specs.shelf.Text.{sameBytes}
 use Rattle.std.proofs.shelf.Equals.{sameBytes-decides}
 use Rattle.std.proofs.shelf.Tests.{cases-bool, both-ways}
 use Rattle.std.proofs.shelf.Ways.{tells}
+use Rattle.std.proofs.shelf.Lists.{length-take-le}
+use Rattle.machine.specs.declared.names.Names.{Names}
 use Rattle.machine.specs.Paths.{meets?}
+use Rattle.machine.specs.Views.{bytesOf, namesOf}
 use Rattle.machine.specs.Queries.{Test, any, named, Query, fits, asked, column, positionOf, fitsAt, deepAt, ListedTest, Listed}
 use Rattle.positions.proofs.Flat.{columnSteps}
 
@@ -71,3 +74,13 @@ columns-meet names (s ∷ q) (n ∷ path) l =
 pub columns-lt : (names : List (List ℕ)) (path : List (List ℕ)) → All (λ c. c < length names + 1) (map (column names) path)
 columns-lt names [] = tt
 columns-lt names (n ∷ path) = (column-lt names n, columns-lt names path)
+
+length-names : (ns : Names) → length (namesOf ns) ≡ ns .count
+length-names ns = length-map (take (ns .count) (ns .list)) bytesOf ∙ length-take-le (ns .count) (ns .list) (omega (arith, ns .size, ns .within))
+
+-- there are sixteen columns
+pub names-few : (ns : Names) → length (namesOf ns) < 16
+names-few ns = omega (arith, length-names ns, ns .within)
+
+pub column-few : (ns : Names) (n : List ℕ) → column (namesOf ns) n < 16
+column-few ns n = omega (arith, names-few ns, column-lt (namesOf ns) n)

@@ -10,7 +10,7 @@ use Rattle.machine.specs.declared.position.Position.the-variants.{End}
 use Rattle.machine.specs.Paths.{Step, stepped, run, begin, meets?}
 use Rattle.machine.specs.Queries.{Query, position, asStep, ends}
 use Rattle.machine.proofs.Runs.{length-stepped, run-meets?}
-use Rattle.positions.proofs.Masks.{carry}
+use Rattle.positions.proofs.Digits.{carry}
 
 and-none : (b : Bool) → (b && false) ≡ false
 and-none true = refl

@@ -1,6 +1,6 @@
 pub mod Unions
 pub mod Pickings
-pub mod Masks
+pub mod Digits
 pub mod Flat
 pub mod Columns
 pub mod Rule

@@ -10,6 +10,7 @@ use lib.Pow.{pow-mono}
 use lib.ListN.{length, getD, replicate, length-map, length-replicate, length-append}
 use Rattle.std.specs.shelf.Lists.{All}
 use Rattle.std.proofs.shelf.Bits.{pow-pos}
+use Rattle.std.proofs.shelf.Lists.{replicate-append-replicate}
 use Rattle.std.proofs.shelf.Ways.{tells}
 use Rattle.machine.specs.declared.position.Position.{Position}
 use Rattle.machine.specs.declared.position.Position.the-variants.{End}
@@ -17,7 +18,7 @@ use Rattle.machine.specs.Paths.{Step, stepped, run, meets?}
 use Rattle.machine.specs.Queries.{Query, asked, column, position, positions, begins, ends, size, Listed, asStep, fitsAt, deepAt}
 use Rattle.machine.specs.Masks.{mask, has, moved, fitMask, deepMask}
 use Rattle.positions.specs.Sets.{movedOn, runBy, firsts, restMask}
-use Rattle.positions.proofs.Masks.{carry, fitting, staying, moved-is, has-mask, mask-lt, mask-push, mask-none, mask-append-none}
+use Rattle.positions.proofs.Digits.{carry, fitting, staying, moved-is, has-mask, mask-lt, mask-push, mask-none, mask-append-none}
 use Rattle.positions.proofs.Flat.{columnSteps, flat, started, Sealed, sealed-flat, last-of}
 use Rattle.positions.proofs.Columns.{columns-meet, columns-lt}
 
@@ -81,10 +82,6 @@ pub length-positions : (names : List (List ℕ)) (qs : List Query) → length (p
 length-positions names [] = refl
 length-positions names (q ∷ qs) = let h = length-positions names qs in omega (arith, length-append (map (position names) q) (End ∷ positions names qs), length-map q (position names))
 
-replicate-append : (a b : ℕ) → replicate a false ++ replicate b false ≡ replicate (a + b) false
-replicate-append zero b = ap (λ n. replicate n false) (sym (zero-add b))
-replicate-append (suc a) b = ap (λ x. false ∷ x) (replicate-append a b) ∙ ap (λ n. replicate n false) (let z : suc (a + b) ≡ suc a + b = omega arith in z)
-
 length-started : (from : ℕ → Bool) (k : ℕ) (qs : List Query) → length (started from k qs) ≡ size qs
 length-started from k [] = refl
 length-started from k (q ∷ qs) = let h = length-started from (suc k) qs in omega (arith, length-append (from k ∷ replicate (length q) false) (started from (suc k) qs), length-replicate (length q) false)
@@ -98,7 +95,7 @@ started-none : (from : ℕ → Bool) (k : ℕ) (qs : List Query) → ((i : ℕ) 
 started-none from k [] h = refl
 started-none from k (q ∷ qs) h =
     ap₂ (λ b x. (b ∷ replicate (length q) false) ++ x) (h k (omega arith)) (started-none from (suc k) qs (λ i l. h i (omega arith)))
-    ∙ replicate-append (suc (length q)) (size qs)
+    ∙ replicate-append-replicate (suc (length q)) (size qs) false
     ∙ ap (λ m. replicate m false) (let z : suc (length q) + size qs ≡ length q + suc (size qs) = omega arith in z)
 
 -- one position of the set, at the place o
@@ -118,7 +115,7 @@ first-alone k o zero (q ∷ qs) l =
     let here : from k ≡ true = grind (arith, tells) in
     let none = started-none from (suc k) qs (λ i h. let f : eqb (k + 0) i ≡ false = grind (arith, tells) in f) in
     ap₂ (λ b x. mask (replicate o false ++ ((b ∷ replicate (length q) false) ++ x))) here none
-    ∙ ap (λ x. mask (replicate o false ++ true ∷ x)) (replicate-append (length q) (size qs))
+    ∙ ap (λ x. mask (replicate o false ++ true ∷ x)) (replicate-append-replicate (length q) (size qs) false)
     ∙ mask-one o (length q + size qs)
 first-alone k o (suc j) (q ∷ qs) l =
     let n = length q in
@@ -126,7 +123,7 @@ first-alone k o (suc j) (q ∷ qs) l =
     let here : from k ≡ false = grind (arith, tells) in
     let rest = started from (suc k) qs in
     ap (λ b. mask (replicate o false ++ ((b ∷ replicate n false) ++ rest))) here
-    ∙ ap mask (sym (append-assoc (replicate o false) (replicate (suc n) false) rest) ∙ ap (λ x. x ++ rest) (replicate-append o (suc n)))
+    ∙ ap mask (sym (append-assoc (replicate o false) (replicate (suc n) false) rest) ∙ ap (λ x. x ++ rest) (replicate-append-replicate o (suc n) false))
     ∙ ap₂ (λ m i. mask (replicate m false ++ started (eqb i) (suc k) qs)) (let z : o + suc n ≡ o + n + 1 = omega arith in z) (let z : k + suc j ≡ suc k + j = omega arith in z)
     ∙ first-alone (suc k) (o + n + 1) j qs (omega arith)
 

@@ -1,11 +1,11 @@
 -- Laws of unions and common parts.
 use mathlib.Core.Path.{_≡_, refl, sym, ap, ap₂, _∙_}
 use mathlib.Core.Bool.{Bool, true, false, cond, _||_}
-use Prim.Native.Nat.{ℕ, zero, suc, _+_, _*_, _%_, _/_, _<_}
-use native.Mathlib.Nat.{add-zero}
+use Prim.Native.Nat.{ℕ, zero, suc, _+_, _*_, _%_, _/_, _^_, _<_}
+use native.Mathlib.Nat.{add-zero, pow-suc}
 use native.Mathlib.Omega.{arith}
 use lib.Arith.{bin-ind}
-use lib.Bits.{bitAnd, bitOr, and-shr, and-mod, and-zero-l, or-shr, or-mod, or-comm, or-self, or-zero-r, or-block}
+use lib.Bits.{bitAnd, bitOr, and-shr, and-mod, and-zero-l, or-shr, or-mod, or-comm, or-self, or-zero-r, or-block, or-lt, and-le-r}
 use lib.Dec.{eqb, lit<}
 use Rattle.machine.specs.Masks.{moved}
 
@@ -76,3 +76,8 @@ pub moved-or : (fits stays a b : ℕ) → moved fits stays (bitOr a b) ≡ bitOr
 moved-or fits stays a b =
     ap₂ bitOr (ap (λ x. x * 2) (and-or a b fits) ∙ twice-or (bitAnd a fits) (bitAnd b fits)) (and-or a b stays)
     ∙ swapped (bitAnd a fits * 2) (bitAnd b fits * 2) (bitAnd a stays) (bitAnd b stays)
+
+-- a moved set keeps within its width
+pub moved-lt : (w fits stays set : ℕ) → fits < 2 ^ w → stays < 2 ^ suc w → moved fits stays set < 2 ^ suc w
+moved-lt w fits stays set f s =
+    or-lt (suc w) (bitAnd set fits * 2) (bitAnd set stays) (omega (arith, and-le-r set fits, pow-suc 2 w)) (omega (arith, and-le-r set stays))

@@ -1,13 +1,15 @@
 -- How sets of positions move on names.
-use mathlib.Core.Bool.{Bool, true, false, cond}
+use mathlib.Core.Bool.{Bool, true, false, cond, _&&_}
 use mathlib.Core.List.{List, [], _∷_, _++_, map}
 use Prim.Native.Nat.{ℕ, suc, _+_, _-_, _/_, _%_}
-use lib.Dec.{eqb}
+use lib.Dec.{eqb, ltb}
 use lib.Bits.{bitOr}
 use lib.ListN.{length, getD, replicate}
 use Rattle.machine.specs.declared.position.Position.{Position}
 use Rattle.machine.specs.Queries.{Query, deepAt}
-use Rattle.machine.specs.Masks.{mask, moved}
+use Rattle.machine.specs.Masks.{mask, has, moved, fitMask}
+use Rattle.positions.specs.declared.lines.Lines.{Lines}
+use Rattle.positions.specs.Tabs.{tab}
 
 -- the rows that the bits of `set` name, lowest first, in one
 abbrev pub picked : ℕ → List ℕ → ℕ
@@ -31,3 +33,11 @@ firsts o (q ∷ qs) = o ∷ firsts (o + length q + 1) qs
 -- the positions, of n in all, that lead to themselves: those before `//`, and the unused ones
 abbrev pub restMask : ℕ → List Position → ℕ
 restMask n ps = mask (map deepAt ps ++ replicate (n - length ps) true)
+
+-- the mask of each of the 16 columns
+abbrev pub fitMasks : List Position → List ℕ
+fitMasks ps = tab (fitMask ps) 16
+
+-- the queries whose last position is in their set
+abbrev pub marked : Lines → (ℕ → ℕ) → List Bool
+marked l setOf = tab (λ q. ltb q (l .count) && has (setOf q) (getD (l .last) q 0)) 8

@@ -1,0 +1,81 @@
+//! The masks of positions.
+ghost use mathlib.Core.Path.{_≡_};
+ghost use Prim.Native.Nat.{ℕ, _+_, _-_, _*_, _/_, _%_, _^_, _<_, _≤_};
+ghost use lib.ListN.{length, getD, set};
+ghost use Rattle.machine.specs.Queries.{fitsAt, deepAt};
+ghost use Rattle.machine.specs.Masks.{fitMask, deepMask};
+ghost use Rattle.positions.specs.Sets.{restMask, fitMasks};
+use crate::moves::Moves;
+use machine::Position;
+
+fn fits(p: Position, column: u8) -> bool
+    ensures { λ r. ⌜ r ≡ fitsAt p column ⌝ }
+{
+    match p {
+        Position::End => false,
+        Position::Any(_) => true,
+        Position::Name(_, name) => name == column,
+    }
+}
+
+fn deep(p: Position) -> bool
+    ensures { λ r. ⌜ r ≡ deepAt p ⌝ }
+{
+    match p {
+        Position::End => false,
+        Position::Any(deep) => deep,
+        Position::Name(deep, _) => deep,
+    }
+}
+
+/// The positions whose step fits the column.
+pub fn fit_mask(positions: &[Position], column: u8) -> u32
+    requires { ⌜ length (now positions) ≤ 32 ⌝ }
+    ensures { λ r. ⌜ r ≡ fitMask (now (positions .entry)) column ⌝ }
+{
+    let mut mask: u32 = 0;
+    for j in 0..positions.len() {
+        if fits(positions[j], column) {
+            mask |= 1 << j;
+        }
+    }
+    mask
+}
+
+/// The positions whose step is `//`.
+pub fn deep_mask(positions: &[Position]) -> u32
+    requires { ⌜ length (now positions) ≤ 32 ⌝ }
+    ensures { λ r. ⌜ r ≡ deepMask (now (positions .entry)) ⌝ }
+{
+    let mut mask: u32 = 0;
+    for j in 0..positions.len() {
+        if deep(positions[j]) {
+            mask |= 1 << j;
+        }
+    }
+    mask
+}
+
+/// These, and the unused ones of 32 positions.
+pub fn rest_mask(positions: &[Position]) -> u32
+    requires { ⌜ length (now positions) ≤ 32 ⌝ }
+    ensures { λ r. ⌜ r ≡ restMask 32 (now (positions .entry)) ⌝ }
+{
+    let mut mask = deep_mask(positions);
+    for j in positions.len()..32 {
+        mask |= 1 << j;
+    }
+    mask
+}
+
+/// The mask of each column.
+pub fn fit_masks(positions: &[Position]) -> [u32; 16]
+    requires { ⌜ length (now positions) ≤ 32 ⌝ }
+    ensures { λ r. ⌜ r ≡ fitMasks (now (positions .entry)) ⌝ }
+{
+    let mut fits = [0; 16];
+    for c in 0..16 {
+        fits[c] = fit_mask(positions, c as u8);
+    }
+    fits
+}
