@@ -8,13 +8,14 @@ use native.Mathlib.Omega.{arith}
 use lib.Bits.{bitOr, or-shr, or-self, or-zero-r, or-lt, or-shifted-r}
 use lib.Count.{trailingZeros, under}
 use lib.Dec.{eqb}
-use lib.ListN.{length, getD}
+use lib.ListN.{length, getD, length-map}
 use Rattle.std.specs.Iters.{counting}
 use Rattle.std.proofs.shelf.Bits.{pow-pos}
-use Rattle.std.proofs.shelf.Ways.{tells}
-use Rattle.positions.specs.Tabs.{tab}
+use Rattle.std.proofs.shelf.Lists.{getD-map}
+use Rattle.machine.specs.Masks.{moved}
+use Rattle.positions.specs.Tabs.{tab, length-tab, getD-tab, is-tab}
 use Rattle.positions.specs.Sets.{picked}
-use Rattle.positions.proofs.Unions.{odd-or, or-assoc, swapped}
+use Rattle.positions.proofs.Unions.{odd-or, or-assoc, swapped, moved-or}
 
 pub picked-zero : (xs : List ℕ) → picked 0 xs ≡ 0
 picked-zero [] = refl
@@ -147,3 +148,22 @@ pick-more k got left total t bit xs low b e =
     ∙ ap (λ x. bitOr got (bitOr (getD xs t 0) (picked (left - x) xs))) b
     ∙ ap (bitOr got) (sym (picked-lowest k left t xs low))
     ∙ e
+
+map-tab : (g f : ℕ → ℕ) (n : ℕ) → map g (tab f n) ≡ tab (λ k. g (f k)) n
+map-tab g f n =
+    is-tab (λ k. g (f k)) (map g (tab f n)) n 0 (length-map (tab f n) g ∙ length-tab f n)
+    (λ k h. getD-map g (tab f n) k 0 0 (subst (λ m. k < m) (sym (length-tab f n)) h) ∙ ap g (getD-tab f n k 0 h))
+
+-- the rows to which single positions move, picked by a set
+pub picked-moved : (n fits stays s : ℕ) → s < 2 ^ n → picked s (tab (λ k. moved fits stays (2 ^ k)) n) ≡ moved fits stays s
+picked-moved n fits stays s h =
+    ap (picked s) (sym (map-tab (moved fits stays) (λ k. 2 ^ k) n))
+    ∙ sym (picked-linear (moved fits stays) refl (moved-or fits stays) s (tab (λ k. 2 ^ k) n))
+    ∙ ap (moved fits stays) (picked-powers n s h)
+
+-- rows picked from rows that were picked
+pub picked-joined : (n s : ℕ) (xs ys : List ℕ) → length xs ≡ n → picked (picked s xs) ys ≡ picked s (tab (λ k. picked (getD xs k 0) ys) n)
+picked-joined n s xs ys e =
+    picked-picked s xs ys
+    ∙ ap (picked s) (is-tab (λ k. picked (getD xs k 0) ys) (map (λ x. picked x ys) xs) n 0 (length-map xs (λ x. picked x ys) ∙ e)
+      (λ k h. getD-map (λ x. picked x ys) xs k 0 0 (subst (λ m. k < m) (sym e) h)))

@@ -1,5 +1,8 @@
 //! The machine of relations: its action says of each pair of positions whether the first leads to the second.
 pub mod action;
 pub mod compose;
+pub mod relation;
+pub mod related;
 
 pub use action::RelationAction;
+pub use relation::RelationMachine;
