@@ -1,0 +1,4 @@
+pub mod Closure
+pub mod Arising
+pub mod Filling
+pub mod Tables
