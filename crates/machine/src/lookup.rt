@@ -60,7 +60,7 @@ impl Names {
 
     /// The name's column, once it stands among the names; nothing where it cannot.
     pub fn note(&mut self, name: &[u8]) -> Option<usize>
-        ensures { λ r. ⌜ Cases r (NamesFit (noted (namesOf (now (self .entry))) (now (name .entry))) → ⊥) (λ k. (namesOf (now (self .exit)) ≡ noted (namesOf (now (self .entry))) (now (name .entry))) × (k ≡ column (namesOf (now (self .exit))) (now (name .entry))) × (length (now (name .entry)) ≤ 24)) ⌝ }
+        ensures { λ r. ⌜ Cases r (NamesFit (noted (namesOf (now (self .entry))) (now (name .entry))) → ⊥) (λ k. (namesOf (now (self .exit)) ≡ noted (namesOf (now (self .entry))) (now (name .entry))) × (k ≡ column (namesOf (now (self .exit))) (now (name .entry))) × (k ≤ 15)) ⌝ }
     {
         if name.len() > LONGEST_NAME {
             return None;
