@@ -4,3 +4,5 @@ pub mod Digits
 pub mod Flat
 pub mod Columns
 pub mod Rule
+pub mod Lining
+pub mod Telling

@@ -1,0 +1,58 @@
+//! Lines and moves are made from the positions of queries.
+ghost use mathlib.Core.Path.{_≡_};
+ghost use Prim.Native.Nat.{ℕ, _+_, _-_, _*_, _/_, _%_, _^_, _<_, _≤_};
+ghost use lib.ListN.{length, getD, set};
+ghost use Rattle.machine.specs.Masks.{fitMask};
+ghost use Rattle.positions.specs.Sets.{fitMasks};
+ghost use Rattle.positions.specs.Verdicts.{begun};
+use crate::lines::Lines;
+use crate::masks::fit_masks;
+use crate::moves::Moves;
+use machine::Position;
+
+impl Lines {
+    /// Of no queries.
+    pub fn none() -> Lines
+        ensures { λ r. ⌜ r .count ≡ 0 ⌝ }
+    {
+        Lines { first: [0; 8], last: [0; 8], count: 0 }
+    }
+
+    /// Of queries with these last positions.
+    pub fn of(lasts: &[usize]) -> Lines
+        requires few { ⌜ length (now lasts) ≤ 8 ⌝ }
+        requires low { ⌜ ((k : ℕ) → k < length (now lasts) → getD (now lasts) k 0 < 32) ⌝ }
+        requires rising { ⌜ ((k : ℕ) → k + 1 < length (now lasts) → getD (now lasts) k 0 < getD (now lasts) (k + 1) 0) ⌝ }
+        ensures count { λ r. ⌜ r .count ≡ length (now (lasts .entry)) ⌝ }
+        ensures last { λ r. ⌜ ((k : ℕ) → k < length (now (lasts .entry)) → getD (r .last) k 0 ≡ getD (now (lasts .entry)) k 0) ⌝ }
+        ensures first { λ r. ⌜ ((k : ℕ) → k < length (now (lasts .entry)) → getD (r .first) k 0 ≡ begun (now (lasts .entry)) k) ⌝ }
+    {
+        let mut first = [0; 8];
+        let mut last = [0; 8];
+        let mut next = 0;
+        for q in 0..lasts.len() {
+            first[q] = next as u8;
+            last[q] = lasts[q] as u8;
+            next = lasts[q] + 1;
+        }
+        Lines { first, last, count: lasts.len() }
+    }
+}
+
+impl Moves {
+    /// No position leads to the next one, and all lead to themselves.
+    pub fn none() -> Moves
+        ensures { λ r. ⌜ ((c : ℕ) → getD (r .fits) c 0 ≡ 0) × (r .stays ≡ 2 ^ 32 - 1) ⌝ }
+    {
+        Moves { fits: [0; 16], stays: u32::MAX }
+    }
+
+    /// Of these positions, where `stays` lead to themselves.
+    pub fn of(positions: &[Position], stays: u32) -> Moves
+        requires size { ⌜ length (now positions) ≤ 32 ⌝ }
+        requires low { ⌜ ((c : ℕ) → fitMask (now positions) c < 2 ^ 31) ⌝ }
+        ensures { λ r. ⌜ (r .fits ≡ fitMasks (now (positions .entry))) × (r .stays ≡ stays) ⌝ }
+    {
+        Moves { fits: fit_masks(positions), stays }
+    }
+}
