@@ -4,3 +4,4 @@ pub mod Trying
 pub mod Closing
 pub mod Arise
 pub mod Walks
+pub mod Telling
