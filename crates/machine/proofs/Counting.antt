@@ -88,7 +88,7 @@ pub lineCount-le : (s : State) → lineCount s ≤ 1
 lineCount-le s = one-le (closes s)
 
 -- the draft of the text's first i bytes
-pub drafted : List ℕ → ℕ → Draft
+unfoldable pub drafted : List ℕ → ℕ → Draft
 drafted text i = folded next start (take i text)
 
 pub drafted-none : (text : List ℕ) → drafted text 0 ≡ start
