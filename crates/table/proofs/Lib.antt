@@ -5,3 +5,4 @@ pub mod Closing
 pub mod Arise
 pub mod Walks
 pub mod Telling
+pub mod Examples

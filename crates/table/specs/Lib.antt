@@ -2,3 +2,4 @@ pub mod Closure
 pub mod Arising
 pub mod Filling
 pub mod Tables
+pub mod Examples

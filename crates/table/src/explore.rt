@@ -22,6 +22,16 @@ fn themselves() -> [u8; 512]
     next
 }
 
+impl States {
+    /// No states: every entry leads a state to itself.
+    pub fn none() -> States
+        ensures count { λ r. ⌜ r .found .count ≡ 0 ⌝ }
+        ensures next { λ r. ⌜ ((k : ℕ) → k < 512 → getD (r .next) k 0 ≡ k / 16) ⌝ }
+    {
+        States { found: Found { sets: [0; 32], count: 0 }, next: themselves() }
+    }
+}
+
 /// The states that arise from `start` on the columns, and their table; nothing if there are more than 32.
 pub fn explore(moves: &Moves, start: u32, columns: usize) -> Option<States>
     requires { ⌜ columns ≤ 16 ⌝ }

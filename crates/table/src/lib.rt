@@ -3,6 +3,7 @@ pub mod action;
 pub mod explore;
 pub mod fill;
 pub mod found;
+pub mod make;
 pub mod search;
 pub mod states;
 pub mod table;

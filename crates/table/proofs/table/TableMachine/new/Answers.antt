@@ -1,0 +1,18 @@
+use mathlib.Core.Path.{_≡_, _∙_}
+use Prim.Native.Nat.{ℕ}
+use native.Mathlib.Omega.{arith}
+use Rattle.std.proofs.shelf.Bits.{div-mul-add}
+use Rattle.positions.specs.Tabs.{tab-same}
+use Rattle.positions.proofs.Columns.{column-few}
+use Rattle.positions.proofs.Telling.{marked-none}
+use Rattle.table.specs.Tables.{same-action}
+use Rattle.table.proofs.table.TableMachine.new.Needs as need
+
+pub returns : need.returns
+returns c = record {
+  verdict = λ path. marked-none (c .none-3 .result) _ (c .none-3 .ensures);
+  marks = λ a. marked-none (c .none-3 .result) _ (c .none-3 .ensures);
+  stays = λ n.
+    let few = column-few (c .none .result) n in
+    same-action _ _ (tab-same _ _ 32 0 (λ k h. c .none-2 .ensures .next _ (omega arith) ∙ div-mul-add k 16 _ few));
+}
