@@ -9,7 +9,7 @@ use lib.Dec.{eqb, lit<}
 use lib.ListN.{length, getD, take, replicate, length-map}
 use lib.Bits.{bitAnd, bitOr, and-block, or-block, or-shifted-r}
 use Rattle.std.proofs.shelf.Bits.{shr-shr, div-mul-add, one-shl}
-use Rattle.std.proofs.shelf.Lists.{map-more, length-take-le}
+use Rattle.std.proofs.shelf.Lists.{take-more, map-more, length-take-le}
 use Rattle.std.proofs.shelf.Ways.{tells}
 use Rattle.machine.specs.Paths.{Step, stepped}
 use Rattle.machine.specs.Masks.{mask, has, moved}
@@ -118,3 +118,11 @@ moves (s ∷ ss) c came (b ∷ bs) e k =
 pub moved-is : (ss : List (Step ℕ)) (c : ℕ) (bs : List Bool) → length bs ≡ length ss → carry ss c false bs ≡ false
   → moved (fitting ss c) (staying ss) (mask bs) ≡ mask (stepped ss c false bs)
 moved-is ss c bs e k = ap (λ x. bitOr x (bitAnd (mask bs) (staying ss))) (sym (add-zero (bitAnd (mask bs) (fitting ss c) * 2))) ∙ moves ss c false bs e k
+
+-- the bits so far of a list of bits, and the first of those to come
+pub bits-more : (w : ℕ) (xs : List Bool) (j : ℕ) (b : Bool) → j < length xs → j < w → b ≡ getD xs j false
+  → cond b (bitOr (mask (take j xs)) ((1 * 2 ^ j) % 2 ^ w)) (mask (take j xs)) ≡ mask (take (j + 1) xs)
+bits-more w xs j true l h e = mask-set w (take j xs) j (length-take-le j xs (omega arith)) h ∙ ap mask (sym (take-more xs j false l ∙ ap (λ x. take j xs ++ x ∷ []) (sym e)))
+bits-more w xs j false l h e =
+    let p : mask (take j xs ++ false ∷ []) ≡ mask (take j xs) + 0 = mask-push (take j xs) false in
+    omega arith ∙ sym p ∙ ap mask (sym (take-more xs j false l ∙ ap (λ x. take j xs ++ x ∷ []) (sym e)))

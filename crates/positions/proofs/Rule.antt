@@ -7,17 +7,18 @@ use native.Mathlib.Nat.{zero-add}
 use native.Mathlib.Omega.{arith}
 use lib.Dec.{eqb}
 use lib.Pow.{pow-mono}
-use lib.ListN.{length, getD, replicate, length-map, length-replicate, length-append}
+use lib.ListN.{length, getD, drop, replicate, length-map, length-replicate, length-append}
 use Rattle.std.specs.shelf.Lists.{All}
 use Rattle.std.proofs.shelf.Bits.{pow-pos}
-use Rattle.std.proofs.shelf.Lists.{replicate-append-replicate}
+use Rattle.std.proofs.shelf.Lists.{replicate-append-replicate, drop-more}
 use Rattle.std.proofs.shelf.Ways.{tells}
 use Rattle.machine.specs.declared.position.Position.{Position}
 use Rattle.machine.specs.declared.position.Position.the-variants.{End}
 use Rattle.machine.specs.Paths.{Step, stepped, run, meets?}
-use Rattle.machine.specs.Queries.{Query, asked, column, position, positions, begins, ends, size, Listed, asStep, fitsAt, deepAt}
+use Rattle.machine.specs.Queries.{Test, any, named, Query, asked, column, positionOf, position, positions, begins, ends, size, Listed, asStep, fitsAt, deepAt}
 use Rattle.machine.specs.Masks.{mask, has, moved, fitMask, deepMask}
-use Rattle.positions.specs.Sets.{movedOn, runBy, firsts, restMask}
+use Rattle.machine.specs.Views.{isEnd}
+use Rattle.positions.specs.Sets.{movedOn, runBy, firsts, restMask, startBits}
 use Rattle.positions.proofs.Digits.{carry, fitting, staying, moved-is, has-mask, mask-lt, mask-push, mask-none, mask-append-none}
 use Rattle.positions.proofs.Flat.{columnSteps, flat, started, Sealed, sealed-flat, last-of}
 use Rattle.positions.proofs.Columns.{columns-meet, columns-lt}
@@ -205,3 +206,30 @@ low-fits names [] w h c = low-nil c w
 low-fits names (q ∷ qs) w h c =
     let t = ended names q qs in
     subst (λ ps. fitMask ps c < 2 ^ w) (sym (t .1)) (low-end (t .0) c w (omega (arith, ap length (t .1), length-positions names (q ∷ qs))))
+
+start-query : (names : List (List ℕ)) (q : Query) (b : Bool) (ps : List Position) → startBits b (map (position names) q ++ End ∷ ps) ≡ (b ∷ replicate (length q) false) ++ startBits true ps
+start-query names [] b ps = refl
+start-query names (s ∷ q) b ps =
+    ap (λ x. b ∷ startBits x (map (position names) q ++ End ∷ ps)) (not-end (s .deep) (s .test)) ∙ ap (λ x. b ∷ x) (start-query names q false ps)
+  where
+    not-end : (d : Bool) (t : Test) → isEnd (positionOf names d t) ≡ false
+    not-end d any = refl
+    not-end d (named n) = refl
+
+-- the positions 0, one by one
+pub starts-are : (names : List (List ℕ)) (qs : List Query) → startBits true (positions names qs) ≡ begins qs
+starts-are names [] = refl
+starts-are names (q ∷ qs) = start-query names q true (positions names qs) ∙ ap (λ x. (true ∷ replicate (length q) false) ++ x) (starts-are names qs)
+
+-- one bit on
+pub starts-more : (b : Bool) (ps : List Position) (xs : List Bool) (j : ℕ) → j < length ps → length xs ≡ length ps → startBits b (drop j ps) ≡ drop j xs
+  → (b ≡ getD xs j false) × (startBits (isEnd (getD ps j End)) (drop (j + 1) ps) ≡ drop (j + 1) xs)
+starts-more b ps xs j l n e =
+    let p = drop-more ps j End l in
+    let x = drop-more xs j false (omega arith) in
+    let both : b ∷ startBits (isEnd (getD ps j End)) (drop (j + 1) ps) ≡ getD xs j false ∷ drop (j + 1) xs = ap (startBits b) (sym p) ∙ e ∙ x in
+    (cc, cc)
+
+pub length-starts : (b : Bool) (ps : List Position) → length (startBits b ps) ≡ length ps
+length-starts b [] = refl
+length-starts b (p ∷ ps) = ap suc (length-starts (isEnd p) ps)

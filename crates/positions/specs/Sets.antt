@@ -8,6 +8,7 @@ use lib.ListN.{length, getD, replicate}
 use Rattle.machine.specs.declared.position.Position.{Position}
 use Rattle.machine.specs.Queries.{Query, deepAt}
 use Rattle.machine.specs.Masks.{mask, has, moved, fitMask}
+use Rattle.machine.specs.Views.{isEnd}
 use Rattle.positions.specs.declared.lines.Lines.{Lines}
 use Rattle.positions.specs.Tabs.{tab}
 
@@ -41,3 +42,8 @@ fitMasks ps = tab (fitMask ps) 16
 -- the queries whose last position is in their set
 abbrev pub marked : Lines → (ℕ → ℕ) → List Bool
 marked l setOf = tab (λ q. ltb q (l .count) && has (setOf q) (getD (l .last) q 0)) 8
+
+-- which positions are a query's 0: the first if `zero`, and each that follows an end
+abbrev pub startBits : Bool → List Position → List Bool
+startBits zero [] = []
+startBits zero (p ∷ ps) = zero ∷ startBits (isEnd p) ps

@@ -1,10 +1,12 @@
 //! The masks of positions.
 ghost use mathlib.Core.Path.{_≡_};
+ghost use mathlib.Core.Bool.{true};
 ghost use Prim.Native.Nat.{ℕ, _+_, _-_, _*_, _/_, _%_, _^_, _<_, _≤_};
 ghost use lib.ListN.{length, getD, set};
 ghost use Rattle.machine.specs.Queries.{fitsAt, deepAt};
-ghost use Rattle.machine.specs.Masks.{fitMask, deepMask};
-ghost use Rattle.positions.specs.Sets.{restMask, fitMasks};
+ghost use Rattle.machine.specs.Masks.{mask, fitMask, deepMask};
+ghost use Rattle.machine.specs.Views.{isEnd};
+ghost use Rattle.positions.specs.Sets.{restMask, fitMasks, startBits};
 use crate::moves::Moves;
 use machine::Position;
 
@@ -26,6 +28,12 @@ fn deep(p: Position) -> bool
         Position::Any(deep) => deep,
         Position::Name(deep, _) => deep,
     }
+}
+
+fn is_end(p: Position) -> bool
+    ensures { λ r. ⌜ r ≡ isEnd p ⌝ }
+{
+    matches!(p, Position::End)
 }
 
 /// The positions whose step fits the column.
@@ -78,4 +86,20 @@ pub fn fit_masks(positions: &[Position]) -> [u32; 16]
         fits[c] = fit_mask(positions, c as u8);
     }
     fits
+}
+
+/// The positions 0 of the queries: the first one, and each that follows an end.
+pub fn start_mask(positions: &[Position]) -> u32
+    requires { ⌜ length (now positions) ≤ 32 ⌝ }
+    ensures { λ r. ⌜ r ≡ mask (startBits true (now (positions .entry))) ⌝ }
+{
+    let mut mask: u32 = 0;
+    let mut first = true;
+    for j in 0..positions.len() {
+        if first {
+            mask |= 1 << j;
+        }
+        first = is_end(positions[j]);
+    }
+    mask
 }
