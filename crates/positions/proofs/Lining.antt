@@ -6,7 +6,7 @@ use Prim.Native.Nat.{ℕ, zero, suc, _+_, _<_, _≤_}
 use native.Mathlib.Omega.{arith}
 use native.Mathlib.Numerals.{add-one}
 use lib.ListN.{length, getD, set, replicate}
-use Rattle.std.proofs.shelf.Lists.{length-set, getD-set-same, getD-set-other}
+use Rattle.std.proofs.shelf.Lists.{length-set, length-replicate, getD-set-same, getD-set-other}
 use Rattle.std.proofs.shelf.Tests.{cases-eq}
 use Rattle.machine.specs.Queries.{Query, ends, size}
 use Rattle.positions.specs.Sets.{firsts}
@@ -20,6 +20,8 @@ pub record Lining (lasts : List ℕ) (q : ℕ) (first last : List ℕ) (next : �
   pub end : (k : ℕ) → k < 8 → getD last k 0 < 32
   pub first-is : (k : ℕ) → k < q → getD first k 0 ≡ begun lasts k
   pub last-is : (k : ℕ) → k < q → getD last k 0 ≡ getD lasts k 0
+  pub first-rest : (k : ℕ) → q ≤ k → getD first k 0 ≡ 0
+  pub last-rest : (k : ℕ) → q ≤ k → getD last k 0 ≡ 0
   pub next-is : next ≡ begun lasts q
 
 set-lt : (xs : List ℕ) (q v : ℕ) → length xs ≡ 8 → q < 8 → v < 32 → ((k : ℕ) → k < 8 → getD xs k 0 < 32) → (k : ℕ) → k < 8 → getD (set xs q v) k 0 < 32
@@ -33,6 +35,27 @@ set-is xs q v f l e old k kl = elim (cases-eq k q) [
     inl s ↦ ap (λ j. getD (set xs q v) j 0) s ∙ getD-set-same xs q v 0 l ∙ e ∙ ap f (sym s)
   | inr ne ↦ getD-set-other xs q k v 0 ne ∙ old k (omega arith)
   ]
+
+set-rest : (xs : List ℕ) (q v : ℕ) → ((k : ℕ) → q ≤ k → getD xs k 0 ≡ 0) → (k : ℕ) → q + 1 ≤ k → getD (set xs q v) k 0 ≡ 0
+set-rest xs q v old k l = getD-set-other xs q k v 0 (λ e. omega arith) ∙ old k (omega arith)
+
+none : (n k : ℕ) → getD {A = ℕ} (replicate n 0) k 0 ≡ 0
+none zero k = refl
+none (suc n) zero = refl
+none (suc n) (suc k) = none n k
+
+pub lining-none : (lasts : List ℕ) → Lining lasts 0 (replicate 8 0) (replicate 8 0) 0
+lining-none lasts = record {
+  first-long = length-replicate 8 0;
+  last-long = length-replicate 8 0;
+  begin = λ k l. omega (arith, none 8 k);
+  end = λ k l. omega (arith, none 8 k);
+  first-is = λ k l. absurd (omega arith);
+  last-is = λ k l. absurd (omega arith);
+  first-rest = λ k l. none 8 k;
+  last-rest = λ k l. none 8 k;
+  next-is = refl;
+}
 
 begun-more : (xs : List ℕ) (q : ℕ) → begun xs (q + 1) ≡ getD xs q 0 + 1
 begun-more xs q = ap (begun xs) (add-one q)
@@ -51,6 +74,8 @@ lining-more lasts q first last next few low rising l h = record {
   end = set-lt last q (getD lasts q 0) (h .last-long) (omega arith) (low q l) (h .end);
   first-is = set-is first q next (begun lasts) (omega (arith, h .first-long)) (h .next-is) (h .first-is);
   last-is = set-is last q (getD lasts q 0) (λ k. getD lasts k 0) (omega (arith, h .last-long)) refl (h .last-is);
+  first-rest = set-rest first q next (h .first-rest);
+  last-rest = set-rest last q (getD lasts q 0) (h .last-rest);
   next-is = sym (begun-more lasts q);
 }
 

@@ -1,7 +1,7 @@
 //! Lines and moves are made from the positions of queries.
 ghost use mathlib.Core.Path.{_≡_};
 ghost use Prim.Native.Nat.{ℕ, _+_, _-_, _*_, _/_, _%_, _^_, _<_, _≤_};
-ghost use lib.ListN.{length, getD, set};
+ghost use lib.ListN.{length, getD, set, replicate};
 ghost use Rattle.machine.specs.Masks.{fitMask};
 ghost use Rattle.positions.specs.Sets.{fitMasks};
 ghost use Rattle.positions.specs.Verdicts.{begun};
@@ -13,7 +13,7 @@ use machine::Position;
 impl Lines {
     /// Of no queries.
     pub fn none() -> Lines
-        ensures { λ r. ⌜ r .count ≡ 0 ⌝ }
+        ensures { λ r. ⌜ (r .count ≡ 0) × (r .first ≡ replicate 8 0) × (r .last ≡ replicate 8 0) ⌝ }
     {
         Lines { first: [0; 8], last: [0; 8], count: 0 }
     }
@@ -26,6 +26,7 @@ impl Lines {
         ensures count { λ r. ⌜ r .count ≡ length (now (lasts .entry)) ⌝ }
         ensures last { λ r. ⌜ ((k : ℕ) → k < length (now (lasts .entry)) → getD (r .last) k 0 ≡ getD (now (lasts .entry)) k 0) ⌝ }
         ensures first { λ r. ⌜ ((k : ℕ) → k < length (now (lasts .entry)) → getD (r .first) k 0 ≡ begun (now (lasts .entry)) k) ⌝ }
+        ensures rest { λ r. ⌜ ((k : ℕ) → length (now (lasts .entry)) ≤ k → (getD (r .first) k 0 ≡ 0) × (getD (r .last) k 0 ≡ 0)) ⌝ }
     {
         let mut first = [0; 8];
         let mut last = [0; 8];

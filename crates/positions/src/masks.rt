@@ -41,13 +41,13 @@ pub fn fit_mask(positions: &[Position], column: u8) -> u32
     requires { ⌜ length (now positions) ≤ 32 ⌝ }
     ensures { λ r. ⌜ r ≡ fitMask (now (positions .entry)) column ⌝ }
 {
-    let mut mask: u32 = 0;
+    let mut fitting: u32 = 0;
     for j in 0..positions.len() {
         if fits(positions[j], column) {
-            mask |= 1 << j;
+            fitting |= 1 << j;
         }
     }
-    mask
+    fitting
 }
 
 /// The positions whose step is `//`.
@@ -55,13 +55,13 @@ pub fn deep_mask(positions: &[Position]) -> u32
     requires { ⌜ length (now positions) ≤ 32 ⌝ }
     ensures { λ r. ⌜ r ≡ deepMask (now (positions .entry)) ⌝ }
 {
-    let mut mask: u32 = 0;
+    let mut staying: u32 = 0;
     for j in 0..positions.len() {
         if deep(positions[j]) {
-            mask |= 1 << j;
+            staying |= 1 << j;
         }
     }
-    mask
+    staying
 }
 
 /// These, and the unused ones of 32 positions.
@@ -69,11 +69,11 @@ pub fn rest_mask(positions: &[Position]) -> u32
     requires { ⌜ length (now positions) ≤ 32 ⌝ }
     ensures { λ r. ⌜ r ≡ restMask 32 (now (positions .entry)) ⌝ }
 {
-    let mut mask = deep_mask(positions);
+    let mut resting = deep_mask(positions);
     for j in positions.len()..32 {
-        mask |= 1 << j;
+        resting |= 1 << j;
     }
-    mask
+    resting
 }
 
 /// The mask of each column.
@@ -93,13 +93,13 @@ pub fn start_mask(positions: &[Position]) -> u32
     requires { ⌜ length (now positions) ≤ 32 ⌝ }
     ensures { λ r. ⌜ r ≡ mask (startBits true (now (positions .entry))) ⌝ }
 {
-    let mut mask: u32 = 0;
+    let mut starts: u32 = 0;
     let mut first = true;
     for j in 0..positions.len() {
         if first {
-            mask |= 1 << j;
+            starts |= 1 << j;
         }
         first = is_end(positions[j]);
     }
-    mask
+    starts
 }

@@ -8,4 +8,4 @@ use Rattle.machine.specs.Masks.{mask}
 use Rattle.positions.proofs.masks.rest_mask.Given as given
 
 abbrev pub Inv-loop-j : given.InvT-loop-j
-Inv-loop-j l = l .mask ≡ mask (map deepAt (l .positions) ++ replicate (l .j - length (l .positions)) true)
+Inv-loop-j l = l .resting ≡ mask (map deepAt (l .positions) ++ replicate (l .j - length (l .positions)) true)

@@ -6,4 +6,4 @@ use Rattle.positions.specs.Sets.{startBits}
 use Rattle.positions.proofs.masks.start_mask.Given as given
 
 abbrev pub Inv-loop-j : given.InvT-loop-j
-Inv-loop-j l = (l .mask ≡ mask (take (l .j) (startBits true (l .positions)))) × (startBits (l .first) (drop (l .j) (l .positions)) ≡ drop (l .j) (startBits true (l .positions)))
+Inv-loop-j l = (l .starts ≡ mask (take (l .j) (startBits true (l .positions)))) × (startBits (l .first) (drop (l .j) (l .positions)) ≡ drop (l .j) (startBits true (l .positions)))
