@@ -2,7 +2,7 @@
 use mathlib.Core.Path.{_≡_, refl, sym, ap, subst, _∙_}
 use mathlib.Core.Bool.{Bool, true, false, cond}
 use mathlib.Core.List.{List, [], _∷_, _++_, map, append-assoc, append-nil}
-use Prim.Native.Nat.{ℕ, _+_, _<_, _≤_}
+use Prim.Native.Nat.{ℕ, suc, _+_, _<_, _≤_}
 use native.Mathlib.Omega.{arith}
 use lib.ListN.{length, length-append, length-map}
 use Rattle.std.specs.Iters.{folded}
@@ -24,6 +24,10 @@ length-positions names [] = refl
 length-positions names (q ∷ qs) =
     let h = length-positions names qs in
     omega (arith, length-append (map (position names) q) (End ∷ positions names qs), length-map q (position names))
+
+pub length-ends : (o : ℕ) (qs : List Query) → length (ends o qs) ≡ length qs
+length-ends o [] = refl
+length-ends o (q ∷ qs) = ap (λ k. suc k) (length-ends (o + length q + 1) qs)
 
 positions-push : (names : List (List ℕ)) (qs : List Query) (q : Query) → positions names (qs ++ q ∷ []) ≡ (positions names qs ++ map (position names) q) ++ End ∷ []
 positions-push names [] q = refl

@@ -26,7 +26,7 @@ use Rattle.machine.specs.Reading.{turn, closes, parts, sinceAfter, Draft, draf
 use Rattle.machine.specs.Sketches.{Sketch, drawing, sketch, taken, counted, lineCount, drawn, namesIn, sizeIn, sketchOf}
 use Rattle.machine.proofs.Texts.{folded-append}
 use Rattle.machine.proofs.Counting.{drafted, drafted-more, drafted-all, state-next, lines-next, size-next, lines-grow, size-grows}
-use Rattle.machine.proofs.Drawing.{length-positions, sketch-next, names-next, fit-so-far}
+use Rattle.machine.proofs.Drawing.{length-positions, length-ends, sketch-next, names-next, fit-so-far}
 use Rattle.machine.proofs.Viewed.{length-places, length-lasts}
 
 -- where the reading stands: reader, name so far and plan are the draft's
@@ -59,10 +59,6 @@ length-sketch : (D : Draft) → length (sketchOf D .places) ≡ sizeIn D
 length-sketch D =
     let ns = namesIn D in
     omega (arith, length-append (positions ns (D .lines)) (map (position ns) (D .steps)), length-positions ns (D .lines), length-map (D .steps) (position ns))
-
-length-ends : (o : ℕ) (qs : List Query) → length (ends o qs) ≡ length qs
-length-ends o [] = refl
-length-ends o (q ∷ qs) = ap (λ k. suc k) (length-ends (o + length q + 1) qs)
 
 -- there is room for what a byte adds
 module _ (text : List ℕ) (D : Draft) (from i : ℕ) (s : State) (p : Plan) (b : ℕ) (f : Follows D text from i s (sketch p)) (a : Ahead text D b) where

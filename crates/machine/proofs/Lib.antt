@@ -9,3 +9,6 @@ pub mod Counting
 pub mod Growing
 pub mod Drawing
 pub mod Following
+pub mod Decoding
+pub mod Kept
+pub mod Answering

@@ -2,8 +2,7 @@
 ghost use mathlib.Core.Path.{_≡_};
 ghost use Prim.Native.Nat.{_+_, _^_, _<_, _≤_};
 ghost use lib.ListN.{length};
-ghost use Rattle.machine.specs.declared.reader.State.the-variants.{Line};
-ghost use Rattle.machine.specs.Reading.{turn, readsAs};
+ghost use Rattle.machine.specs.Reading.{turn, closes, readsAs};
 ghost use Rattle.machine.specs.Sketches.{counted, lineCount, sizeIn};
 use crate::reader::Reader;
 use crate::reader::Turn;
@@ -47,5 +46,12 @@ impl Measure {
         }
         measure.take(b'\n');
         measure
+    }
+
+    /// Whether the text ends as a line does.
+    pub fn is_whole(&self) -> bool
+        ensures { λ r. ⌜ r ≡ closes (now (self .entry) .reader .state) ⌝ }
+    {
+        self.reader.at_line()
     }
 }
