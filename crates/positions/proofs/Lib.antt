@@ -6,3 +6,4 @@ pub mod Columns
 pub mod Rule
 pub mod Lining
 pub mod Telling
+pub mod Listing

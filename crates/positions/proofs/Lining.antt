@@ -46,8 +46,8 @@ none (suc n) (suc k) = none n k
 
 pub lining-none : (lasts : List ℕ) → Lining lasts 0 (replicate 8 0) (replicate 8 0) 0
 lining-none lasts = record {
-  first-long = length-replicate 8 0;
-  last-long = length-replicate 8 0;
+  first-long = length-replicate {A = ℕ} 8 0;
+  last-long = length-replicate {A = ℕ} 8 0;
   begin = λ k l. omega (arith, none 8 k);
   end = λ k l. omega (arith, none 8 k);
   first-is = λ k l. absurd (omega arith);
@@ -79,11 +79,7 @@ lining-more lasts q first last next few low rising l h = record {
   next-is = sym (begun-more lasts q);
 }
 
-pub lining-low : (lasts : List ℕ) (q : ℕ) (first last : List ℕ) (next : ℕ) → ((k : ℕ) → k < length lasts → getD lasts k 0 < 32)
-  → ((k : ℕ) → k + 1 < length lasts → getD lasts k 0 < getD lasts (k + 1) 0) → q < length lasts → Lining lasts q first last next → next < 32
-lining-low lasts q first last next low rising l h = omega (arith, h .next-is, begun-low lasts q low rising l)
-
-length-ends : (o : ℕ) (qs : List Query) → length (ends o qs) ≡ length qs
+pub length-ends : (o : ℕ) (qs : List Query) → length (ends o qs) ≡ length qs
 length-ends o [] = refl
 length-ends o (q ∷ qs) = ap suc (length-ends (o + length q + 1) qs)
 

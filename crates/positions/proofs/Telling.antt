@@ -17,9 +17,8 @@ use Rattle.machine.specs.Masks.{has}
 use Rattle.machine.proofs.Stands.{meets-decides}
 use Rattle.positions.specs.declared.lines.Lines.{Lines}
 use Rattle.positions.specs.Tabs.{tab, length-tab, getD-tab, is-tab}
-use Rattle.positions.specs.Sets.{marked, firsts}
-use Rattle.positions.specs.Verdicts.{MeetsQuery, ByRule, LinesOf, begun}
-use Rattle.positions.proofs.Lining.{begun-is}
+use Rattle.positions.specs.Sets.{marked}
+use Rattle.positions.specs.Verdicts.{MeetsQuery, ByRule, LinesOf}
 
 no : (P : Type 0) → (P → ⊥) → (b : Bool) → b ≡ false → Decides b P
 no P never b f = (λ t. absurd (both-ways b f t), λ p. absurd (never p))
@@ -59,11 +58,3 @@ pub marked-none : (l : Lines) (setOf : ℕ → ℕ) → l .count ≡ 0 → marke
 marked-none l setOf e =
     sym (is-tab _ (replicate 8 false) 8 false (length-replicate 8 false)
       (λ k h. getD-replicate 8 k false false h ∙ sym (ap (λ t. t && has (setOf k) (getD (l .last) k 0)) (le-ltb k (l .count) (omega arith)))))
-
-pub lines-of : (qs : List Query) (l : Lines) (lasts : List ℕ) → lasts ≡ ends 0 qs → length lasts ≡ length qs → l .count ≡ length lasts
-  → ((k : ℕ) → k < length lasts → getD (l .last) k 0 ≡ getD lasts k 0) → ((k : ℕ) → k < length lasts → getD (l .first) k 0 ≡ begun lasts k) → LinesOf qs l
-lines-of qs l lasts e n c last first = record {
-  count = c ∙ n;
-  first = λ k h. first k (omega arith) ∙ ap (λ xs. begun xs k) e ∙ begun-is k qs h;
-  last = λ k h. last k (omega arith) ∙ ap (λ xs. getD xs k 0) e;
-}

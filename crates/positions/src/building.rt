@@ -2,13 +2,14 @@
 ghost use mathlib.Core.Path.{_≡_};
 ghost use Prim.Native.Nat.{ℕ, _+_, _-_, _*_, _/_, _%_, _^_, _<_, _≤_};
 ghost use lib.ListN.{length, getD, set, replicate};
-ghost use Rattle.machine.specs.Masks.{fitMask};
+ghost use Rattle.machine.specs.Asked.{queriesOf, listedNames};
+ghost use Rattle.machine.specs.Queries.{size, positions};
 ghost use Rattle.positions.specs.Sets.{fitMasks};
-ghost use Rattle.positions.specs.Verdicts.{begun};
+ghost use Rattle.positions.specs.Verdicts.{begun, LinesOf};
 use crate::lines::Lines;
 use crate::masks::fit_masks;
 use crate::moves::Moves;
-use machine::Position;
+use machine::Queries;
 
 impl Lines {
     /// Of no queries.
@@ -19,7 +20,7 @@ impl Lines {
     }
 
     /// Of queries with these last positions.
-    pub fn of(lasts: &[usize]) -> Lines
+    fn ending(lasts: &[usize]) -> Lines
         requires few { ⌜ length (now lasts) ≤ 8 ⌝ }
         requires low { ⌜ ((k : ℕ) → k < length (now lasts) → getD (now lasts) k 0 < 32) ⌝ }
         requires rising { ⌜ ((k : ℕ) → k + 1 < length (now lasts) → getD (now lasts) k 0 < getD (now lasts) (k + 1) 0) ⌝ }
@@ -38,6 +39,15 @@ impl Lines {
         }
         Lines { first, last, count: lasts.len() }
     }
+
+    /// Where these queries begin and end.
+    pub fn of(queries: &Queries) -> Lines
+        requires positions { ⌜ size (queriesOf (now queries)) ≤ 32 ⌝ }
+        requires lines { ⌜ length (queriesOf (now queries)) ≤ 8 ⌝ }
+        ensures { λ r. ⌜ LinesOf (queriesOf (now (queries .entry))) r ⌝ }
+    {
+        Lines::ending(queries.lasts())
+    }
 }
 
 impl Moves {
@@ -48,12 +58,12 @@ impl Moves {
         Moves { fits: [0; 16], stays: u32::MAX }
     }
 
-    /// Of these positions, where `stays` lead to themselves.
-    pub fn of(positions: &[Position], stays: u32) -> Moves
-        requires size { ⌜ length (now positions) ≤ 32 ⌝ }
-        requires low { ⌜ ((c : ℕ) → fitMask (now positions) c < 2 ^ 31) ⌝ }
-        ensures { λ r. ⌜ (r .fits ≡ fitMasks (now (positions .entry))) × (r .stays ≡ stays) ⌝ }
+    /// Of the positions of these queries, where `stays` lead to themselves.
+    pub fn of(queries: &Queries, stays: u32) -> Moves
+        requires { ⌜ size (queriesOf (now queries)) ≤ 32 ⌝ }
+        ensures fits { λ r. ⌜ r .fits ≡ fitMasks (positions (listedNames (now (queries .entry))) (queriesOf (now (queries .entry)))) ⌝ }
+        ensures stays { λ r. ⌜ r .stays ≡ stays ⌝ }
     {
-        Moves { fits: fit_masks(positions), stays }
+        Moves { fits: fit_masks(queries.positions()), stays }
     }
 }

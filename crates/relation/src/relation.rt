@@ -1,4 +1,4 @@
-use machine::names::Names;
+use machine::Names;
 use positions::Lines;
 use positions::Moves;
 

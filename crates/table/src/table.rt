@@ -1,5 +1,5 @@
 use crate::states::States;
-use machine::names::Names;
+use machine::Names;
 use positions::Lines;
 
 /// The queries' names, the states with their table, and where each query ends.
