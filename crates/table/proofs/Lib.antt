@@ -5,4 +5,5 @@ pub mod Closing
 pub mod Arise
 pub mod Walks
 pub mod Telling
+pub mod Making
 pub mod Examples
