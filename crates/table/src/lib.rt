@@ -3,6 +3,7 @@ mod action;
 mod explore;
 mod fill;
 mod found;
+mod laws;
 mod make;
 mod search;
 mod states;
@@ -10,4 +11,6 @@ mod table;
 mod tabled;
 
 pub use action::TableAction;
+pub use laws::closure_finds;
+pub use laws::examples;
 pub use table::TableMachine;
