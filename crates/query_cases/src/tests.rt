@@ -22,32 +22,37 @@ fn length() -> Result<(), Fail> {
     check_eq(refused(&text[0..513]), 1)
 }
 
-#[test]
-fn lines() -> Result<(), Fail> {
-    check_eq(refused(b"/a\n//b\n/*\n//*\n/a\n/a\n/a\n/a"), 0)?;
-    check_eq(refused(b"/a\n//b\n/*\n//*\n/a\n/a\n/a\n/a\n/a"), 2)
-}
+/// Texts, each with the number of its refusal.
+static TEXTS: [(&[u8], u8); 21] = [
+    (b"/a1.-:_", 0),
+    (b"/a\n//b\n/*\n//*\n/a\n/a\n/a\n/a", 0),
+    (b"/a\n//b\n/*\n//*\n/a\n/a\n/a\n/a\n/a", 2),
+    (b"", 2),
+    (b"\n", 2),
+    (b"/a\n", 2),
+    (b"/a\n\n/b", 2),
+    (b"/\xff", 2),
+    (b"a", 2),
+    (b"/", 2),
+    (b"//", 2),
+    (b"///a", 2),
+    (b"/a//", 2),
+    (b"/*a", 2),
+    (b"/a*", 2),
+    (b"/1", 2),
+    (b"/*/*/*/*/*/*/*/*/*/*/*/*/*/*/*/*/a/b/c/d/e/f/g/h/i/j/k/l/m/n/o/p", 3),
+    (b"/a/b/c/d/e/f/g/h/i/j/k/l/m/n/o/a//b", 0),
+    (b"/a/b/c/d/e/f/g/h/i/j/k/l/m/n/o/p", 4),
+    (b"/abcdefghijklmnopqrstuvwx", 0),
+    (b"/abcdefghijklmnopqrstuvwxy", 4),
+];
 
 #[test]
-fn no_queries() -> Result<(), Fail> {
-    check_eq(refused(b""), 2)?;
-    check_eq(refused(b"\n"), 2)?;
-    check_eq(refused(b"/a\n"), 2)?;
-    check_eq(refused(b"/a\n\n/b"), 2)?;
-    check_eq(refused(&[47, 255]), 2)?;
-    check_eq(refused(b"a"), 2)
-}
-
-#[test]
-fn no_steps() -> Result<(), Fail> {
-    check_eq(refused(b"/"), 2)?;
-    check_eq(refused(b"//"), 2)?;
-    check_eq(refused(b"///a"), 2)?;
-    check_eq(refused(b"/a//"), 2)?;
-    check_eq(refused(b"/*a"), 2)?;
-    check_eq(refused(b"/a*"), 2)?;
-    check_eq(refused(b"/1"), 2)?;
-    check_eq(refused(b"/a1.-:_"), 0)
+fn texts() -> Result<(), Fail> {
+    for (text, number) in &TEXTS {
+        check_eq(refused(text), *number)?;
+    }
+    check_eq(refused(&[b'/'; 513]), 1)
 }
 
 #[test]
@@ -60,20 +65,6 @@ fn positions() -> Result<(), Fail> {
     check_eq(refused(&text[0..64]), 3)?;
     text[63] = b'/';
     check_eq(refused(&text[0..64]), 2)
-}
-
-#[test]
-fn names() -> Result<(), Fail> {
-    check_eq(refused(b"/a/b/c/d/e/f/g/h/i/j/k/l/m/n/o/a//b"), 0)?;
-    check_eq(refused(b"/a/b/c/d/e/f/g/h/i/j/k/l/m/n/o/p"), 4)?;
-    check_eq(refused(b"/abcdefghijklmnopqrstuvwx"), 0)?;
-    check_eq(refused(b"/abcdefghijklmnopqrstuvwxy"), 4)
-}
-
-#[test]
-fn order() -> Result<(), Fail> {
-    check_eq(refused(b"/*/*/*/*/*/*/*/*/*/*/*/*/*/*/*/*/a/b/c/d/e/f/g/h/i/j/k/l/m/n/o/p"), 3)?;
-    check_eq(refused(&[b'/'; 513]), 1)
 }
 
 #[test]
