@@ -10,7 +10,7 @@ use Rattle.std.specs.shelf.Lists.{All}
 use Rattle.std.proofs.shelf.Tests.{and-parts, and-from, ltb-true, lt-ltb, eqb-true, eq-eqb, false≢true}
 use Rattle.machine.specs.declared.position.Position.{Position}
 use Rattle.machine.specs.declared.position.Position.the-variants.{End, Any, Name}
-use Rattle.machine.specs.Queries.{Test, any, named, QueryStep, Query, column, position, positions, ListedTest, Listed}
+use Rattle.machine.specs.Queries.{Test, any, named, QueryStep, step, Query, column, position, positions, ListedTest, Listed}
 use Rattle.machine.specs.Views.{before, decoded, isEnd, complete, listedAt, allListed}
 use Rattle.machine.proofs.Columns.{name-at}
 
@@ -74,9 +74,9 @@ steps-decoded names (s ∷ q) ps l = at (s .test) (l .0) ∙ ap (before s) (step
   where
     rest : List Position
     rest = map (position names) q ++ End ∷ ps
-    at : (t : Test) → ListedTest names t → decoded names (position names (record { deep = s .deep; test = t }) ∷ rest) ≡ before (record { deep = s .deep; test = t }) (decoded names rest)
+    at : (t : Test) → ListedTest names t → decoded names (position names (step (s .deep) t) ∷ rest) ≡ before (step (s .deep) t) (decoded names rest)
     at any k = refl
-    at (named n) k = ap (λ m. before (record { deep = s .deep; test = named m }) (decoded names rest)) (name-at names n k)
+    at (named n) k = ap (λ m. before (step (s .deep) (named m)) (decoded names rest)) (name-at names n k)
 
 pub decoded-is : (names : List (List ℕ)) (qs : List Query) → All (Listed names) qs → decoded names (positions names qs) ≡ qs
 decoded-is names [] l = refl
@@ -96,7 +96,7 @@ steps-known : (names : List (List ℕ)) (q : Query) (ps : List Position) → Lis
 steps-known names [] ps l h = h
 steps-known names (s ∷ q) ps l h = and-from _ _ (at (s .test) (l .0)) (steps-known names q ps (l .1) h)
   where
-    at : (t : Test) → ListedTest names t → listedAt names (position names (record { deep = s .deep; test = t })) ≡ true
+    at : (t : Test) → ListedTest names t → listedAt names (position names (step (s .deep) t)) ≡ true
     at any k = refl
     at (named n) k = and-from _ _ (lt-ltb 0 (column names n) k) (eq-eqb (column names (getD names (column names n - 1) [])) (column names n) (ap (column names) (name-at names n k)))
 

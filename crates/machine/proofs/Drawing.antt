@@ -13,9 +13,9 @@ use Rattle.machine.specs.declared.position.Position.the-variants.{End, Any, Na
 use Rattle.machine.specs.declared.reader.State.{State}
 use Rattle.machine.specs.declared.reader.Turn.{Turn}
 use Rattle.machine.specs.declared.reader.Turn.the-variants.{On, Starred, Named}
-use Rattle.machine.specs.Queries.{any, named, QueryStep, Query, column, position, positions, size, ends, Listed, noted, notedSteps, notedAll, namesUsed}
+use Rattle.machine.specs.Queries.{any, named, QueryStep, step, Query, column, position, positions, size, ends, Listed, noted, notedSteps, notedAll, namesUsed}
 use Rattle.machine.specs.Limits.{NamesFit}
-use Rattle.machine.specs.Reading.{turn, closes, stepsAfter, sinceAfter, Draft, draft, step, next}
+use Rattle.machine.specs.Reading.{turn, closes, stepsAfter, sinceAfter, Draft, draft, next}
 use Rattle.machine.specs.Sketches.{Sketch, drawing, pushed, ended, taken, drawn, namesIn, sizeIn, sketchOf}
 use Rattle.machine.proofs.Growing.{Grows, grows-none, grows-on, noted-grows, steps-grow, all-listed, lists-steps, lists-all, steps-same, positions-same, notedSteps-push, notedAll-push, fit-before}
 

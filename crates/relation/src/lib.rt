@@ -3,7 +3,7 @@ mod action;
 mod compose;
 mod make;
 mod relation;
-mod related;
+pub mod related;
 
 pub use action::RelationAction;
 pub use relation::RelationMachine;

@@ -8,7 +8,7 @@ mod make;
 mod search;
 mod states;
 mod table;
-mod tabled;
+pub mod tabled;
 
 pub use action::TableAction;
 pub use laws::closure_finds;
