@@ -3,7 +3,7 @@ ghost use mathlib.Core.Path.{_≡_};
 ghost use Prim.Native.Nat.{ℕ, _+_, _-_, _*_, _/_, _%_, _^_, _<_, _≤_};
 ghost use lib.ListN.{length, getD, set, replicate};
 ghost use Rattle.machine.specs.Asked.{queriesOf, listedNames};
-ghost use Rattle.machine.specs.Queries.{size, positions};
+ghost use Rattle.machine.specs.Queries.{positions};
 ghost use Rattle.positions.specs.Sets.{fitMasks};
 ghost use Rattle.positions.specs.Verdicts.{begun, LinesOf};
 use crate::lines::Lines;
@@ -42,8 +42,6 @@ impl Lines {
 
     /// Where these queries begin and end.
     pub fn of(queries: &Queries) -> Lines
-        requires positions { ⌜ size (queriesOf (now queries)) ≤ 32 ⌝ }
-        requires lines { ⌜ length (queriesOf (now queries)) ≤ 8 ⌝ }
         ensures { λ r. ⌜ LinesOf (queriesOf (now (queries .entry))) r ⌝ }
     {
         Lines::ending(queries.lasts())
@@ -60,7 +58,6 @@ impl Moves {
 
     /// Of the positions of these queries, where `stays` lead to themselves.
     pub fn of(queries: &Queries, stays: u32) -> Moves
-        requires { ⌜ size (queriesOf (now queries)) ≤ 32 ⌝ }
         ensures fits { λ r. ⌜ r .fits ≡ fitMasks (positions (listedNames (now (queries .entry))) (queriesOf (now (queries .entry)))) ⌝ }
         ensures stays { λ r. ⌜ r .stays ≡ stays ⌝ }
     {

@@ -2,11 +2,10 @@
 ghost use mathlib.Core.Path.{_≡_};
 ghost use mathlib.Core.Bool.{false};
 ghost use mathlib.Core.List.{List};
-ghost use Prim.Native.Nat.{ℕ, _≤_};
-ghost use lib.ListN.{length, replicate};
+ghost use Prim.Native.Nat.{ℕ};
+ghost use lib.ListN.{replicate};
 ghost use Rattle.std.specs.Results.{Cases};
-ghost use Rattle.machine.specs.Asked.{Refused, queriesOf};
-ghost use Rattle.machine.specs.Queries.{size};
+ghost use Rattle.machine.specs.Asked.{Refused};
 ghost use Rattle.relation.specs.declared.action.RelationAction.{RelationAction};
 ghost use Rattle.relation.specs.Relations.{related};
 ghost use Rattle.relation.specs.Making.{RelationOf, Related};
@@ -29,8 +28,6 @@ impl RelationMachine {
     }
 
     fn of(queries: &Queries) -> RelationMachine
-        requires positions { ⌜ size (queriesOf (now queries)) ≤ 32 ⌝ }
-        requires lines { ⌜ length (queriesOf (now queries)) ≤ 8 ⌝ }
         ensures { λ r. ⌜ RelationOf (now (queries .entry)) r ⌝ }
     {
         let stays = rest_mask(queries.positions());

@@ -2,12 +2,11 @@
 ghost use mathlib.Core.Path.{_≡_};
 ghost use mathlib.Core.Bool.{false};
 ghost use mathlib.Core.List.{List};
-ghost use Prim.Native.Nat.{ℕ, _≤_};
-ghost use lib.ListN.{length, replicate};
+ghost use Prim.Native.Nat.{ℕ};
+ghost use lib.ListN.{replicate};
 ghost use Rattle.std.specs.Options as options;
 ghost use Rattle.std.specs.Results.{Cases};
 ghost use Rattle.machine.specs.Asked.{queriesOf, listedNames};
-ghost use Rattle.machine.specs.Queries.{size};
 ghost use Rattle.table.specs.declared.action.TableAction.{TableAction};
 ghost use Rattle.table.specs.Tables.{tabled};
 ghost use Rattle.table.specs.Making.{TooMany, TableOf, Tabled, TableRefused};
@@ -33,8 +32,6 @@ impl TableMachine {
     }
 
     fn of(queries: &Queries) -> Option<TableMachine>
-        requires positions { ⌜ size (queriesOf (now queries)) ≤ 32 ⌝ }
-        requires lines { ⌜ length (queriesOf (now queries)) ≤ 8 ⌝ }
         ensures { λ r. ⌜ options.Cases r (TooMany (listedNames (now (queries .entry))) (queriesOf (now (queries .entry)))) (TableOf (now (queries .entry))) ⌝ }
     {
         let stays = deep_mask(queries.positions());

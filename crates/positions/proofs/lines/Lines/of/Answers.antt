@@ -8,6 +8,7 @@ use Rattle.machine.specs.Asked.{queriesOf}
 use Rattle.machine.specs.Queries.{Query, ends, size}
 use Rattle.positions.specs.Verdicts.{begun}
 use Rattle.positions.proofs.Lining.{length-ends, ends-low, ends-rise, begun-is}
+use Rattle.positions.proofs.Listing.{queries-few}
 use Rattle.positions.proofs.lines.Lines.of.Needs as need
 
 module _ (qs : List Query) (xs : List ℕ) (e : xs ≡ ends 0 qs) where
@@ -27,14 +28,14 @@ pub ending-requires : need.ending-requires
 ending-requires c κs =
     let qs = queriesOf (c .args .queries .now) in
     let xs = c .lasts .result .now in
-    let e = c .lasts .ensures in
-    record { few = omega (arith, long qs xs e); low = low qs xs e (c .pre .positions); rising = rising qs xs e }
+    let e = c .lasts .ensures .list in
+    record { few = c .lasts .ensures .few; low = low qs xs e (queries-few (c .args .queries .now)); rising = rising qs xs e }
 
 pub returns : need.returns
 returns c =
     let qs = queriesOf (c .args .queries .now) in
     let xs = c .lasts .result .now in
-    let e = c .lasts .ensures in
+    let e = c .lasts .ensures .list in
     let n = long qs xs e in
     let h = c .ending .ensures in
     record {
