@@ -1,13 +1,13 @@
 -- The positions of all queries in one list, and each query by itself.
-use mathlib.Core.Path.{_≡_, refl, sym, ap, subst, _∙_}
-use mathlib.Core.Bool.{Bool, true, false, cond, _&&_, _||_}
+use mathlib.Core.Path.{_≡_, refl, sym, ap, _∙_}
+use mathlib.Core.Bool.{Bool, true, false, _&&_, _||_}
 use mathlib.Core.List.{List, [], _∷_, _++_, map, append-assoc}
-use Prim.Native.Nat.{ℕ, zero, suc, _+_, _-_, _<_, _≤_}
+use Prim.Native.Nat.{ℕ, zero, suc, _+_, _-_, _<_}
 use native.Mathlib.Omega.{arith}
 use lib.ListN.{length, getD, replicate, length-map, length-replicate, length-append}
 use Rattle.std.proofs.shelf.Lists.{getD-append-left, getD-append-right}
 use Rattle.machine.specs.declared.position.Position.the-variants.{End}
-use Rattle.machine.specs.Paths.{Step, stepped, run, begin, meets?}
+use Rattle.machine.specs.Paths.{Step, stepped, run, meets?}
 use Rattle.machine.specs.Queries.{Query, position, asStep, ends}
 use Rattle.machine.proofs.Runs.{length-stepped, run-meets?}
 use Rattle.positions.proofs.Digits.{carry}

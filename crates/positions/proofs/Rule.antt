@@ -1,8 +1,8 @@
 -- Moving masks of positions decides the path rule.
 use mathlib.Core.Path.{_≡_, refl, sym, ap, ap₂, subst, _∙_}
-use mathlib.Core.Bool.{Bool, true, false, cond, _&&_}
+use mathlib.Core.Bool.{Bool, true, false, _&&_}
 use mathlib.Core.List.{List, [], _∷_, _++_, map, map-append, append-assoc, append-nil}
-use Prim.Native.Nat.{ℕ, zero, suc, _+_, _-_, _*_, _^_, _<_, _≤_}
+use Prim.Native.Nat.{ℕ, zero, suc, _+_, _-_, _^_, _<_, _≤_}
 use native.Mathlib.Nat.{zero-add}
 use native.Mathlib.Omega.{arith}
 use lib.Dec.{eqb}
@@ -19,8 +19,8 @@ use Rattle.machine.specs.Queries.{Test, any, named, Query, asked, column, posit
 use Rattle.machine.specs.Masks.{mask, has, moved, fitMask, deepMask}
 use Rattle.machine.specs.Views.{isEnd}
 use Rattle.positions.specs.Sets.{movedOn, runBy, firsts, restMask, startBits}
-use Rattle.positions.proofs.Digits.{carry, fitting, staying, moved-is, has-mask, mask-lt, mask-push, mask-none, mask-append-none}
-use Rattle.positions.proofs.Flat.{columnSteps, flat, started, Sealed, sealed-flat, last-of}
+use Rattle.positions.proofs.Digits.{fitting, staying, moved-is, has-mask, mask-lt, mask-push, mask-none, mask-append-none}
+use Rattle.positions.proofs.Flat.{flat, started, Sealed, sealed-flat, last-of}
 use Rattle.positions.proofs.Columns.{columns-meet, columns-lt}
 
 length-same : {N : Type 0} (ss : List (Step N)) (n : N) (came : Bool) (bs : List Bool) → length bs ≡ length ss → length (stepped ss n came bs) ≡ length ss
@@ -49,9 +49,6 @@ flat-is names (q ∷ qs) rest =
 -- the step after an unused position, which leads to itself
 abbrev idle : Step ℕ
 idle = record { deep = true; fits = λ c. false }
-
-sealed-none : Sealed []
-sealed-none c came bs k e = k
 
 sealed-idle : (k : ℕ) → Sealed (replicate k idle)
 sealed-idle zero c came bs k e = k

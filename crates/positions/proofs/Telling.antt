@@ -1,9 +1,9 @@
 -- A set of positions that moves by the rule gives a verdict by the rule.
-use mathlib.Core.Path.{_≡_, refl, sym, ap, ap₂, subst, _∙_}
-use mathlib.Core.Bool.{Bool, true, false, _&&_}
+use mathlib.Core.Path.{_≡_, sym, ap, ap₂, _∙_}
+use mathlib.Core.Bool.{Bool, false, _&&_}
 use mathlib.Core.Logic.{inl, inr}
-use mathlib.Core.List.{List, [], _∷_, map}
-use Prim.Native.Nat.{ℕ, _+_, _<_, _≤_}
+use mathlib.Core.List.{List, [], map}
+use Prim.Native.Nat.{ℕ, _<_, _≤_}
 use native.Mathlib.Omega.{arith}
 use lib.Dec.{ltb}
 use lib.ListN.{length, getD, replicate}
@@ -11,12 +11,12 @@ use Rattle.std.specs.Orderings.{Decides}
 use Rattle.std.proofs.shelf.Lists.{getD-past, length-replicate, getD-replicate}
 use Rattle.std.proofs.shelf.Tests.{cases-lt, both-ways, lt-ltb, le-ltb}
 use Rattle.std.proofs.shelf.Ways.{decides-at, decides-like}
-use Rattle.machine.specs.Paths.{Meets, meets?}
-use Rattle.machine.specs.Queries.{Query, asked, ends, size}
+use Rattle.machine.specs.Paths.{meets?}
+use Rattle.machine.specs.Queries.{Query, asked, ends}
 use Rattle.machine.specs.Masks.{has}
 use Rattle.machine.proofs.Stands.{meets-decides}
 use Rattle.positions.specs.declared.lines.Lines.{Lines}
-use Rattle.positions.specs.Tabs.{tab, length-tab, getD-tab, is-tab}
+use Rattle.positions.specs.Tabs.{length-tab, getD-tab, is-tab}
 use Rattle.positions.specs.Sets.{marked}
 use Rattle.positions.specs.Verdicts.{MeetsQuery, ByRule, LinesOf}
 
@@ -29,9 +29,6 @@ yes qs k path b l e =
 
 module _ (qs : List Query) (l : Lines) (lines : LinesOf qs l) (setOf : List (List ℕ) → ℕ → ℕ)
   (moves : (path : List (List ℕ)) (k : ℕ) → k < length qs → has (setOf path k) (getD (ends 0 qs) k 0) ≡ meets? (map asked (getD qs k [])) path) where
-
-  at : List (List ℕ) → ℕ → Bool
-  at path k = ltb k (l .count) && has (setOf path k) (getD (l .last) k 0)
 
   at-line : (path : List (List ℕ)) (k : ℕ) → k < length qs → (ltb k (l .count) && has (setOf path k) (getD (l .last) k 0)) ≡ meets? (map asked (getD qs k [])) path
   at-line path k h =

@@ -1,11 +1,11 @@
 -- Laws of unions and common parts.
 use mathlib.Core.Path.{_≡_, refl, sym, ap, ap₂, _∙_}
-use mathlib.Core.Bool.{Bool, true, false, cond, _||_}
-use Prim.Native.Nat.{ℕ, zero, suc, _+_, _*_, _%_, _/_, _^_, _<_}
+use mathlib.Core.Bool.{_||_}
+use Prim.Native.Nat.{ℕ, zero, suc, _*_, _%_, _/_, _^_, _<_}
 use native.Mathlib.Nat.{add-zero, pow-suc}
 use native.Mathlib.Omega.{arith}
 use lib.Arith.{bin-ind}
-use lib.Bits.{bitAnd, bitOr, and-shr, and-mod, and-zero-l, or-shr, or-mod, or-comm, or-self, or-zero-r, or-block, or-lt, and-le-r}
+use lib.Bits.{bitAnd, bitOr, and-shr, and-mod, or-shr, or-mod, or-comm, or-self, or-zero-r, or-block, or-lt, and-le-r}
 use lib.Dec.{eqb, lit<}
 use Rattle.machine.specs.Masks.{moved}
 

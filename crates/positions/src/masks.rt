@@ -1,8 +1,8 @@
 //! The masks of positions.
 ghost use mathlib.Core.Path.{_≡_};
 ghost use mathlib.Core.Bool.{true};
-ghost use Prim.Native.Nat.{ℕ, _+_, _-_, _*_, _/_, _%_, _^_, _<_, _≤_};
-ghost use lib.ListN.{length, getD, set};
+ghost use Prim.Native.Nat.{_-_, _/_, _<_, _≤_};
+ghost use lib.ListN.{length};
 ghost use Rattle.machine.specs.Queries.{fitsAt, deepAt};
 ghost use Rattle.machine.specs.Masks.{mask, fitMask, deepMask};
 ghost use Rattle.machine.specs.Views.{isEnd};

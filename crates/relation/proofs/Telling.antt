@@ -1,15 +1,14 @@
 -- The machine of relations tells by the path rule.
-use mathlib.Core.Path.{_≡_, refl, sym, ap, ap₂, _∙_}
+use mathlib.Core.Path.{_≡_, ap, ap₂, _∙_}
 use mathlib.Core.List.{List, map}
-use Prim.Native.Nat.{ℕ, _^_, _<_}
-use lib.ListN.{length, getD}
+use Prim.Native.Nat.{_^_}
+use lib.ListN.{getD}
 use Rattle.std.specs.shelf.Lists.{All}
-use Rattle.machine.specs.Paths.{meets?}
-use Rattle.machine.specs.Queries.{Query, asked, positions, ends, Listed}
+use Rattle.machine.specs.Queries.{Query, positions, ends, Listed}
 use Rattle.machine.specs.Masks.{has, fitMask}
 use Rattle.machine.specs.Views.{namesOf}
 use Rattle.positions.specs.Tabs.{getD-tab}
-use Rattle.positions.specs.Sets.{movedOn, runBy, firsts, restMask, fitMasks}
+use Rattle.positions.specs.Sets.{movedOn, runBy, restMask, fitMasks}
 use Rattle.positions.specs.Verdicts.{ByRule, LinesOf}
 use Rattle.positions.proofs.Columns.{names-few}
 use Rattle.positions.proofs.Rule.{one-meets}

@@ -6,7 +6,6 @@ use mathlib.Core.List.{List, map}
 use Prim.Native.Nat.{ℕ, _^_, _<_}
 use std.HLevel.{Π-prop}
 use native.Mathlib.Bridge.{le-prop}
-use native.Mathlib.Omega.{arith}
 use base.Stored.{coded-set, codedℕ}
 use lib.ListN.{length, getD}
 use Rattle.std.proofs.shelf.Bits.{pow-below}

@@ -1,6 +1,4 @@
-ghost use mathlib.Core.Path.{_≡_};
-ghost use Prim.Native.Nat.{ℕ, _+_, _-_, _*_, _/_, _%_, _^_, _<_, _≤_};
-ghost use lib.ListN.{length, getD, set};
+ghost use Prim.Native.Nat.{_-_, _*_, _<_};
 ghost use Rattle.relation.specs.Relations.{related};
 use crate::action::RelationAction;
 use crate::compose::pick;

@@ -1,6 +1,6 @@
 -- Which sets the closure has.
 use mathlib.Core.Path.{_≡_, refl, sym, ap, subst, _∙_}
-use mathlib.Core.Bool.{Bool, true, false, cond}
+use mathlib.Core.Bool.{cond}
 use mathlib.Core.Logic.{inl, inr}
 use mathlib.Core.List.{List, [], _∷_, _++_, append-assoc, append-nil}
 use Prim.Native.Nat.{ℕ, zero, suc, _+_, _-_, _<_, _≤_}
@@ -12,11 +12,11 @@ use Rattle.std.proofs.shelf.Tests.{cases-eq, eq-eqb, cases-lt, lt-ltb, le-ltb, 
 use Rattle.std.proofs.shelf.Elements.{all-push, all-getD}
 use Rattle.std.proofs.shelf.Lists.{getD-append-left, getD-push, length-push, length-append}
 use Rattle.table.specs.Closure.{place, added, tried, closure}
-use Rattle.table.proofs.Places.{place-append, place-push, place-le, place-at, added-old, added-new, added-more, place-added, place-added-lt}
+use Rattle.table.proofs.Places.{place-append, place-push, place-at, added-old, added-new, added-more, place-added, place-added-lt}
 use Rattle.table.proofs.Fills.{tried-grows, added-keeps, added-grows}
-use Rattle.table.proofs.Closing.{closure-grows, closure-more, closure-all}
+use Rattle.table.proofs.Closing.{closure-grows}
 use Rattle.positions.specs.Sets.{runBy}
-use Rattle.table.specs.Arising.{Arises, MoreArise, AllArising, ClosureFinds}
+use Rattle.table.specs.Arising.{Arises, ClosureFinds}
 
 -- what the start has and each column keeps, each set has
 module _ (P : ℕ → Type 0) (f : ℕ → ℕ → ℕ) (cols : ℕ) (on : (s c : ℕ) → c < cols → P s → P (f s c)) where

@@ -1,26 +1,15 @@
 -- State by state.
 use mathlib.Core.Path.{_≡_, refl, sym, ap, subst, _∙_}
-use mathlib.Core.Bool.{Bool, true, false, cond}
 use mathlib.Core.Logic.{inl, inr}
-use mathlib.Core.List.{List, [], _∷_}
+use mathlib.Core.List.{List}
 use Prim.Native.Nat.{ℕ, zero, suc, _+_, _-_, _*_, _/_, _%_, _<_, _≤_}
 use native.Mathlib.Omega.{arith}
 use lib.Dec.{ltb}
-use lib.ListN.{length, getD, take, set}
-use Rattle.std.proofs.shelf.Tests.{cases-lt, lt-ltb, le-ltb, cond-true, cond-false, cases-bool}
-use Rattle.std.proofs.shelf.Ways.{tells}
-use Rattle.std.proofs.shelf.Bits.{div-mul-add}
-use Rattle.table.specs.Closure.{place, added, tried, closure}
+use lib.ListN.{length, getD}
+use Rattle.std.proofs.shelf.Tests.{cases-lt, lt-ltb, le-ltb, cond-true, cond-false}
+use Rattle.table.specs.Closure.{tried, closure}
 use Rattle.table.specs.Filling.{Filled}
 use Rattle.table.proofs.Fills.{tried-grows}
-
-pub filled-none : (f : ℕ → ℕ → ℕ) (cols : ℕ) (sets table : List ℕ) → length table ≡ 512 → ((k : ℕ) → k < 512 → getD table k 0 ≡ k / 16) → Filled f cols 0 sets table
-filled-none f cols sets table n h = record {
-  size = n;
-  done = λ a b k u. absurd (omega arith);
-  found = λ a b k u. absurd (omega arith);
-  rest = λ a b al bl u. h (a * 16 + b) (omega arith) ∙ div-mul-add a 16 b bl;
-}
 
 pub closure-more : (f : ℕ → ℕ → ℕ) (cols n i : ℕ) (sets : List ℕ) → i < n → i < length sets → closure f cols (n - i) i sets ≡ closure f cols (n - (i + 1)) (i + 1) (tried f (getD sets i 0) 0 cols sets)
 unfolding closure

@@ -1,17 +1,15 @@
 -- The table, place by place, and the sets found, column by column.
-use mathlib.Core.Path.{_≡_, refl, sym, ap, subst, _∙_}
-use mathlib.Core.Bool.{Bool, true, false, _&&_, _||_, cond}
-use mathlib.Core.Logic.{_⊎_, inl, inr}
-use mathlib.Core.List.{List, [], _∷_, _++_, map, append-nil}
-use Prim.Native.Nat.{ℕ, zero, suc, _+_, _-_, _*_, _/_, _%_, _^_, _<_, _≤_, min, max}
+use mathlib.Core.Path.{_≡_, sym, ap, subst, _∙_}
+use mathlib.Core.Logic.{inl, inr}
+use mathlib.Core.List.{List, _++_}
+use Prim.Native.Nat.{ℕ, zero, suc, _+_, _-_, _*_, _<_, _≤_}
 use native.Mathlib.Omega.{arith}
-use lib.ListN.{length, getD, take, drop, set}
-use lib.Dec.{eqb, ltb}
+use lib.ListN.{length, getD, set}
 use Rattle.std.proofs.shelf.Tests.{cases-lt, cases-eq}
-use Rattle.std.proofs.shelf.Lists.{length-append, getD-append-left, getD-set-same, getD-set-other, length-set, length-take-le, getD-take}
-use Rattle.table.specs.Closure.{place, added, tried, closure}
+use Rattle.std.proofs.shelf.Lists.{length-append, getD-append-left, getD-set-same, getD-set-other, length-set}
+use Rattle.table.specs.Closure.{place, added, tried}
 use Rattle.table.specs.Filling.{Filled}
-use Rattle.table.proofs.Places.{place-append, place-added, place-added-lt, added-more}
+use Rattle.table.proofs.Places.{place-append, added-more}
 
 filled-append : (f : ℕ → ℕ → ℕ) (cols upto : ℕ) (xs ys table : List ℕ) → upto ≤ length xs * 16 → Filled f cols upto xs table → Filled f cols upto (xs ++ ys) table
 filled-append f cols upto xs ys table l h = record {

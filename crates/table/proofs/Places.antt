@@ -1,15 +1,13 @@
 -- The place of a set among others.
-use mathlib.Core.Path.{_≡_, refl, sym, ap, subst, _∙_}
-use mathlib.Core.Bool.{Bool, true, false, _&&_, _||_, cond}
-use mathlib.Core.List.{List, [], _∷_, _++_, map, append-nil}
-use mathlib.Core.Logic.{_⊎_, inl, inr}
+use mathlib.Core.Path.{_≡_, sym, ap, _∙_}
+use mathlib.Core.List.{List, [], _∷_, _++_, append-nil}
+use mathlib.Core.Logic.{inl, inr}
 use Rattle.std.proofs.shelf.Tests.{cases-lt}
-use Prim.Native.Nat.{ℕ, zero, suc, _+_, _-_, _*_, _/_, _%_, _^_, _<_, _≤_, min, max}
+use Prim.Native.Nat.{ℕ, _+_, _-_, _<_, _≤_}
 use native.Mathlib.Omega.{arith}
 use lib.ListN.{length, getD, take, drop, set}
-use lib.Dec.{eqb, ltb}
 use Rattle.std.proofs.shelf.Ways.{tells}
-use Rattle.std.proofs.shelf.Lists.{drop-more, drop-all, take-more-set, length-take-le, length-push}
+use Rattle.std.proofs.shelf.Lists.{drop-more, take-more-set, length-take-le, length-push}
 use Rattle.table.specs.Closure.{place, added}
 
 pub place-le : (x : ℕ) (xs : List ℕ) → place x xs ≤ length xs

@@ -1,12 +1,12 @@
 -- The table machine tells by the path rule.
-use mathlib.Core.Path.{_≡_, refl, sym, ap, _∙_}
+use mathlib.Core.Path.{_≡_, ap, _∙_}
 use mathlib.Core.List.{List, [], _∷_, map}
-use Prim.Native.Nat.{ℕ, _+_, _<_, _≤_}
+use Prim.Native.Nat.{_+_, _<_}
 use native.Mathlib.Omega.{arith}
 use lib.ListN.{length, getD}
 use Rattle.std.specs.shelf.Lists.{All}
 use Rattle.machine.specs.Queries.{Query, positions, begins, ends, Listed}
-use Rattle.machine.specs.Masks.{mask, has, fitMask, deepMask}
+use Rattle.machine.specs.Masks.{mask, has, fitMask}
 use Rattle.machine.specs.Views.{namesOf}
 use Rattle.positions.specs.Tabs.{getD-tab}
 use Rattle.positions.specs.Sets.{runBy, fitMasks}

@@ -1,14 +1,14 @@
 -- One state's columns, one by one.
-use mathlib.Core.Path.{_≡_, refl, sym, ap, subst, _∙_}
+use mathlib.Core.Path.{_≡_, sym, ap, subst, _∙_}
 use mathlib.Core.List.{List}
 use Prim.Native.Nat.{ℕ, _+_, _-_, _*_, _<_, _≤_}
 use native.Mathlib.Omega.{arith}
-use lib.ListN.{length, getD, take, set}
+use lib.ListN.{length, getD, set}
 use Rattle.std.proofs.shelf.Lists.{length-take-le, getD-take}
 use Rattle.table.specs.declared.found.Found.{Found}
 use Rattle.table.specs.Closure.{place, added, tried}
 use Rattle.table.specs.Filling.{Filled, seen}
-use Rattle.table.proofs.Places.{place-le, place-added, place-added-lt}
+use Rattle.table.proofs.Places.{place-added, place-added-lt}
 use Rattle.table.proofs.Fills.{filled-added, filled-more, filled-row, tried-more, tried-all, tried-grows, added-keeps, added-grows}
 
 pub length-seen : (f : Found) → length (seen f) ≡ f .count

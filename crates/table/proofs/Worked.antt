@@ -1,8 +1,8 @@
 -- Worked examples, by computing.
 use mathlib.Core.Path.{_≡_, refl}
 use mathlib.Core.Bool.{true, false}
-use mathlib.Core.List.{List, [], _∷_, map}
-use Prim.Native.Nat.{ℕ, _<_, _≤_}
+use mathlib.Core.List.{[], _∷_, map}
+use Prim.Native.Nat.{_<_, _≤_}
 use lib.Chars.{codes}
 use lib.Dec.{lit<, lit≤}
 use lib.ListN.{length}

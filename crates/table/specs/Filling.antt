@@ -4,7 +4,7 @@ use mathlib.Core.List.{List, [], _∷_}
 use Prim.Native.Nat.{ℕ, _+_, _*_, _<_, _≤_}
 use lib.ListN.{length, getD, take}
 use Rattle.machine.specs.declared.position.Position.{Position}
-use Rattle.machine.specs.Queries.{Query, positions, begins, namesUsed}
+use Rattle.machine.specs.Queries.{Query, positions, begins}
 use Rattle.machine.specs.Masks.{mask, deepMask}
 use Rattle.positions.specs.declared.moves.Moves.{Moves}
 use Rattle.positions.specs.Sets.{movedOn, fitMasks}

@@ -1,7 +1,7 @@
 //! The number of a set among those found.
 ghost use mathlib.Core.Path.{_≡_};
-ghost use Prim.Native.Nat.{ℕ, _+_, _-_, _*_, _/_, _%_, _^_, _<_, _≤_};
-ghost use lib.ListN.{length, getD, set};
+ghost use Prim.Native.Nat.{_+_, _-_, _/_, _<_};
+ghost use lib.ListN.{length, set};
 ghost use Rattle.std.specs.Options.{Cases};
 ghost use Rattle.table.specs.Closure.{place, added};
 ghost use Rattle.table.specs.Filling.{seen};

@@ -1,14 +1,11 @@
-use mathlib.Core.Path.{_≡_, refl, sym, ap, _∙_}
-use mathlib.Core.Bool.{true, false, cond}
-use mathlib.Core.List.{List}
-use Prim.Native.Nat.{ℕ, _+_, _*_, _^_, _%_, _<_, _≤_}
+use mathlib.Core.Path.{refl, sym, ap, _∙_}
+use mathlib.Core.Bool.{true, cond}
+use Prim.Native.Nat.{_+_, _*_, _^_, _%_}
 use native.Mathlib.Omega.{arith}
 use lib.Bits.{bitOr}
-use lib.ListN.{length, getD, take, drop}
+use lib.ListN.{take, drop}
 use Rattle.std.proofs.shelf.Lists.{take-all}
-use Rattle.machine.specs.declared.position.Position.the-variants.{End}
 use Rattle.machine.specs.Masks.{mask}
-use Rattle.machine.specs.Views.{isEnd}
 use Rattle.positions.specs.Sets.{startBits}
 use Rattle.positions.proofs.Digits.{bits-more}
 use Rattle.positions.proofs.Rule.{starts-more, length-starts}

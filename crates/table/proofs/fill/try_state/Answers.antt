@@ -1,8 +1,6 @@
-use mathlib.Core.Path.{_≡_, refl, sym, ap, subst, _∙_}
-use Prim.Native.Nat.{_<_}
+use mathlib.Core.Path.{refl, sym, ap, _∙_}
 use native.Mathlib.Omega.{arith}
-use borrow.Author.Needs.{needs}
-use lib.ListN.{length, getD}
+use lib.ListN.{getD}
 use Rattle.table.specs.Filling.{seen, byMoves}
 use Rattle.table.proofs.Places.{place-le}
 use Rattle.table.proofs.Trying.{length-seen, getD-seen, trying-none, trying-more, trying-over, trying-all}

@@ -1,7 +1,4 @@
-use mathlib.Core.Path.{_≡_, refl, sym, ap, subst, _∙_}
 use native.Mathlib.Omega.{arith}
-use lib.ListN.{length}
-use Rattle.table.specs.Filling.{seen, byMoves}
 use Rattle.table.proofs.Trying.{length-seen}
 use Rattle.table.proofs.Closing.{closing-more, closing-over, closing-all}
 use Rattle.table.proofs.fill.try_states.Needs as need

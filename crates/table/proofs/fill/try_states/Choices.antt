@@ -1,4 +1,4 @@
-use Prim.Native.Nat.{ℕ, _-_, _<_}
+use Prim.Native.Nat.{_-_}
 use Rattle.table.specs.Filling.{seen, byMoves}
 use Rattle.table.proofs.Closing.{Closing}
 use Rattle.table.proofs.fill.try_states.Given as given

@@ -1,12 +1,12 @@
 use mathlib.Core.Path.{_≡_, refl, sym, ap, _∙_}
 use mathlib.Core.Bool.{false, _&&_}
 use mathlib.Core.List.{List, [], _∷_, map}
-use Prim.Native.Nat.{ℕ, _^_, _<_}
+use Prim.Native.Nat.{ℕ, _<_}
 use lib.Dec.{ltb}
 use lib.ListN.{getD}
 use Rattle.machine.specs.Masks.{has}
 use Rattle.machine.specs.Model.{thenAll}
-use Rattle.positions.specs.Tabs.{tab, length-tab, getD-tab, is-tab, tab-same}
+use Rattle.positions.specs.Tabs.{getD-tab, is-tab, tab-same}
 use Rattle.positions.specs.Sets.{picked, movedOn, runBy}
 use Rattle.positions.proofs.Pickings.{picked-bit, picked-powers, picked-joined, picked-moved}
 use Rattle.relation.specs.declared.action.RelationAction.{RelationAction}

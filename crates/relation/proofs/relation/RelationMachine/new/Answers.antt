@@ -1,7 +1,7 @@
 use mathlib.Core.Path.{_≡_, ap, _∙_}
 use Prim.Native.Nat.{ℕ, _-_, _^_, _<_}
 use native.Mathlib.Omega.{arith}
-use lib.Bits.{bitAnd, bitOr, and-zero-r, and-mask}
+use lib.Bits.{bitAnd, and-zero-r, and-mask}
 use Rattle.std.proofs.shelf.Bits.{pow-below}
 use Rattle.machine.specs.Masks.{moved}
 use Rattle.positions.specs.Tabs.{tab-same}

@@ -1,9 +1,7 @@
-use mathlib.Core.Path.{_≡_, refl, sym, ap, subst, _∙_}
-use Prim.Native.Nat.{_≤_, _<_}
+use mathlib.Core.Path.{_≡_, refl, sym}
 use native.Mathlib.Omega.{arith}
 use borrow.Author.Needs.{needs}
-use lib.ListN.{length}
-use Rattle.table.specs.Closure.{place, added}
+use Rattle.table.specs.Closure.{place}
 use Rattle.table.specs.Filling.{seen}
 use Rattle.std.proofs.shelf.Lists.{length-take-le}
 use Rattle.table.proofs.Places.{added-write, added-length, added-old}

@@ -1,7 +1,6 @@
-use mathlib.Core.Path.{_≡_, refl, sym, ap, subst, _∙_}
-use Prim.Native.Nat.{ℕ, _+_, _*_, _<_}
+use mathlib.Core.Path.{refl, sym, ap, subst, _∙_}
+use Prim.Native.Nat.{_<_}
 use native.Mathlib.Omega.{arith}
-use lib.ListN.{getD}
 use Rattle.positions.specs.Tabs.{is-tab, filled-more}
 use Rattle.positions.proofs.Columns.{column-few}
 use Rattle.table.specs.Tables.{same-action, nextState, next-few}

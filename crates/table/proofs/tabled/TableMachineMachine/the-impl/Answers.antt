@@ -7,10 +7,10 @@ use lib.Dec.{ltb}
 use lib.ListN.{getD}
 use Rattle.machine.specs.Masks.{has}
 use Rattle.machine.specs.Model.{thenAll}
-use Rattle.positions.specs.Tabs.{tab, length-tab, getD-tab, is-tab, tab-same}
+use Rattle.positions.specs.Tabs.{getD-tab, is-tab, tab-same}
 use Rattle.table.specs.declared.action.TableAction.{TableAction}
 use Rattle.table.specs.declared.table.TableMachine.{TableMachine}
-use Rattle.table.specs.Tables.{same-action, thenStates, naming, columnOf, nextState, setAt, walk}
+use Rattle.table.specs.Tables.{same-action, thenStates, naming, columnOf, setAt, walk}
 use Rattle.table.proofs.tabled.TableMachineMachine.the-impl.Needs as need
 
 by-path : (m : TableMachine) (ns : List (List ℕ)) (a : TableAction) (k : ℕ) → k < 32
