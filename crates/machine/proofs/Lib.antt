@@ -1,0 +1,14 @@
+pub mod Runs
+pub mod Stands
+pub mod Columns
+pub mod Viewed
+pub mod Texts
+pub mod Complete
+pub mod Sound
+pub mod Counting
+pub mod Growing
+pub mod Drawing
+pub mod Following
+pub mod Decoding
+pub mod Kept
+pub mod Answering
