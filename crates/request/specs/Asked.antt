@@ -40,8 +40,3 @@ abbrev pub LineSays : Result (Vec ℕ Global) Stop → Option (List ℕ) → Typ
 LineSays (Ok cuts) said = Some (vec-items cuts) ≡ said
 LineSays (Err (Refused why)) said = (why ≡ BadCuts) × (said ≡ None)
 LineSays (Err NoMemory) said = Unit {0}
-
--- why no request came back: a refusal is the input's own, and the want of memory says nothing of the input
-abbrev pub Stopped : Stop → Asked → Type 0
-Stopped (Refused why) a = a ≡ refused why
-Stopped NoMemory a = Unit {0}

@@ -1,6 +1,5 @@
 //! The first line of the input: cut places.
 ghost use mathlib.Core.Path.{_≡_};
-ghost use Rattle.std.specs.Of.Vec.{vec-items};
 ghost use Rattle.request.specs.Places.{placeOf, cutsOf};
 ghost use Rattle.request.specs.Asked.{LineSays};
 use crate::lines::bytes_before;
@@ -9,7 +8,8 @@ use crate::refusal::NoPlaceStop;
 use crate::refusal::Stop;
 use std::alloc::Global;
 
-const LIMIT: usize = 4096;
+/// The greatest place, and the greatest length of a file.
+pub const LIMIT: usize = 4096;
 
 /// The place that a word writes: digits, and at most 4,096.
 pub fn place_of(word: &[u8]) -> Option<usize>

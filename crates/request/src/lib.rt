@@ -4,7 +4,7 @@ pub mod input;
 pub mod lines;
 pub mod refusal;
 
-
-
+pub use input::Request;
+pub use input::read_request;
 pub use refusal::InputRefusal;
 pub use refusal::Stop;
