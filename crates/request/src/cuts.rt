@@ -4,7 +4,7 @@ ghost use Rattle.request.specs.Places.{placeOf, cutsOf};
 ghost use Rattle.request.specs.Asked.{LineSays};
 use crate::lines::bytes_before;
 use crate::refusal::InputRefusal;
-use crate::refusal::NoPlaceStop;
+use crate::refusal::NoMemoryStop;
 use crate::refusal::Stop;
 use std::alloc::Global;
 

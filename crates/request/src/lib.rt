@@ -8,3 +8,6 @@ pub use input::Request;
 pub use input::read_request;
 pub use refusal::InputRefusal;
 pub use refusal::Stop;
+
+#[cfg(test)]
+mod tests;

@@ -23,10 +23,10 @@ pub fn blank_line(bytes: &[u8]) -> usize
     ensures within { λ r. ⌜ r ≤ length (now (bytes .entry)) ⌝ }
 {
     let mut fresh = true;
-    for (i, b) in bytes.iter().enumerate() {
+    for (at, b) in bytes.iter().enumerate() {
         let ends = *b == b'\n';
         if fresh && ends {
-            return i;
+            return at;
         }
         fresh = ends;
     }

@@ -2,7 +2,6 @@
 ghost use mathlib.Core.Path.{_≡_};
 ghost use Rattle.request.specs.declared.refusal.Stop.the-variants.{NoMemory};
 ghost use Rattle.request.specs.Asked.{number};
-use std::alloc::AllocError;
 use std::alloc::Refused;
 
 /// What is wrong with an input.
@@ -32,15 +31,7 @@ pub enum Stop {
     NoMemory,
 }
 
-pub impl From<AllocError> for Stop as NoMemoryStop {
-    ghost converts = { λ e r. r ≡ NoMemory };
-
-    fn from(_e: AllocError) -> Stop {
-        Stop::NoMemory
-    }
-}
-
-pub impl From<Refused<usize>> for Stop as NoPlaceStop {
+pub impl From<Refused<usize>> for Stop as NoMemoryStop {
     ghost converts = { λ e r. r ≡ NoMemory };
 
     fn from(_e: Refused<usize>) -> Stop {

@@ -4,5 +4,5 @@ use lib.ListN.{drop}
 use Rattle.request.specs.Lines.{aheadOfBlank, blankLine}
 use Rattle.request.proofs.lines.blank_line.Given as given
 
-abbrev pub Inv-loop-i : given.InvT-loop-i
-Inv-loop-i l = blankLine (l .bytes) ≡ l .i + aheadOfBlank (l .fresh) (drop (l .i) (l .bytes))
+abbrev pub Inv-loop-at : given.InvT-loop-at
+Inv-loop-at l = blankLine (l .bytes) ≡ l .at + aheadOfBlank (l .fresh) (drop (l .at) (l .bytes))
