@@ -1,1 +1,10 @@
 pub mod Model
+pub mod Paths
+pub mod Queries
+pub mod Masks
+pub mod Limits
+pub mod Text
+pub mod Reading
+pub mod Views
+pub mod Refusals
+pub mod Sketches

@@ -1,0 +1,4 @@
+pub mod Splices
+pub mod Endings
+pub mod Listed
+pub mod Matches
