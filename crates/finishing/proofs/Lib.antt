@@ -1,3 +1,4 @@
+pub mod Ranges
 pub mod Splices
 pub mod Endings
 pub mod Listed

@@ -7,6 +7,8 @@ use native.Mathlib.Nat.{add-zero}
 use native.Mathlib.Omega.{arith}
 use lib.ListN.{length, getD, set, take, drop}
 use Rattle.std.proofs.shelf.Lists.{take-append-drop, take-more, length-append, length-take-le, length-push}
+use Rattle.std.specs.declared.option.Option.{Option}
+use Rattle.std.specs.declared.option.Option.the-variants.{Some, None}
 use Rattle.machine.specs.Model.{Model}
 use Rattle.rows.specs.declared.row.Row.{Row}
 use Rattle.rows.specs.Pieces.{Entry}
@@ -18,6 +20,7 @@ use Rattle.answers.specs.declared.matches.Match.{Match}
 use Rattle.answers.specs.Own.{matches-at}
 use Rattle.answers.specs.Finish.{row-matches}
 use Rattle.answers.proofs.Wholes.{row-matches-append}
+use Rattle.finishing.specs.Ends.{last-row}
 use Rattle.finishing.proofs.Splices.{splice-push, splice-splice}
 
 abbrev pub match-of : ℕ → ℕ → Match
@@ -79,21 +82,30 @@ module _ (p : ℕ) (bs : List Bool) (q : ℕ) (in-set : q < length bs) where
         ∙ splice-push at so-far old (length so-far) (match-of p q) refl (omega arith)
         ∙ ap (λ l. splice at l old) (sym (in-the-set h))
 
--- the queries that a plain form's action marks
-stored-marks : {A P : Type 0} (m : Model A P) (p : P) → stored m .marks p ≡ m .marks (m .back p)
-unfolding stored
-stored-marks m p = refl
+-- the row of the last stretch
+pub with-none : {A P : Type 0} (m : Model A P) (es : List (Entry P)) (more : Option (Row × P)) → more ≡ None → row-matches (stored m) (es ++ last-row more) ≡ row-matches (stored m) es
+with-none m es more e = ap (λ x. row-matches (stored m) (es ++ last-row x)) e ∙ ap (row-matches (stored m)) (append-nil es)
+
+pub with-one : {A P : Type 0} (m : Model A P) (es : List (Entry P)) (more : Option (Row × P)) (r : Row) (p : P) → more ≡ Some (r, p) → row-matches (stored m) (es ++ last-row more) ≡ row-matches (stored m) es ++ matches-at (r .place) 0 (stored m .marks p)
+with-one m es more r p e =
+    ap (λ x. row-matches (stored m) (es ++ last-row x)) e
+    ∙ row-matches-append [] (stored m) es (entry r p ∷ [])
+    ∙ ap (λ l. row-matches (stored m) es ++ l) (append-nil (matches-at (r .place) 0 (stored m .marks p)))
+
+-- there are at least as many as the rows have
+pub with-more : {A P : Type 0} (m : Model A P) (es fs : List (Entry P)) → length (row-matches (stored m) es) ≤ length (row-matches (stored m) (es ++ fs))
+with-more m es fs = let e = ap length (row-matches-append [] (stored m) es fs) ∙ length-append (row-matches (stored m) es) (row-matches (stored m) fs) in omega (arith, e)
 
 -- one row
 module _ {A P : Type 0} (m : Model A P) (rs : List Row) (ps : List P) (sizes : length rs ≡ length ps) (i : ℕ) (in-rows : i < length rs) (p : P) (here : p ≡ getD ps i p) where
-  pub next-row : row-matches (stored m) (take (i + 1) (paired rs ps)) ≡ row-matches (stored m) (take i (paired rs ps)) ++ matches-at (places.at rs i .place) 0 (m .marks (m .back p))
+  pub next-row : row-matches (stored m) (take (i + 1) (paired rs ps)) ≡ row-matches (stored m) (take i (paired rs ps)) ++ matches-at (places.at rs i .place) 0 (stored m .marks p)
   next-row =
       let es = paired rs ps in
       let n : i < length es = let e = length-paired rs ps sizes in omega arith in
       ap (row-matches (stored m)) (take-more es i (entry (places.at rs i) p) n)
       ∙ row-matches-append [] (stored m) (take i es) (getD es i (entry (places.at rs i) p) ∷ [])
       ∙ ap (λ e. row-matches (stored m) (take i es) ++ row-matches (stored m) (e ∷ [])) (sym (read-paired rs ps i p sizes in-rows here))
-      ∙ ap (λ l. row-matches (stored m) (take i es) ++ l) (append-nil (matches-at (places.at rs i .place) 0 (stored m .marks p)) ∙ ap (matches-at (places.at rs i .place) 0) (stored-marks m p))
+      ∙ ap (λ l. row-matches (stored m) (take i es) ++ l) (append-nil (matches-at (places.at rs i .place) 0 (stored m .marks p)))
 
 pub rows-part : {A P : Type 0} (m : Model A P) (es : List (Entry A)) (i : ℕ) → length (row-matches m (take i es)) ≤ length (row-matches m es)
 rows-part m es i =
@@ -108,7 +120,7 @@ module _ {A P : Type 0} (m : Model A P) (rs : List Row) (ps : List P) (sizes : l
   before = row-matches (stored m) (take i (paired rs ps))
 
   abbrev own : List Match
-  own = matches-at (places.at rs i .place) 0 (m .marks (m .back p))
+  own = matches-at (places.at rs i .place) 0 (stored m .marks p)
 
   abbrev after : List Match
   after = row-matches (stored m) (take (i + 1) (paired rs ps))

@@ -11,8 +11,16 @@ use answers::Match;
 use machine::Machine;
 use rows::Row;
 
+/// The queries that a plain form's action marks.
+pub fn marked<M: Machine>(m: &M, plain: &M::Plain) -> [bool; 8]
+    ensures { λ r. ⌜ r ≡ stored (model (now (m .entry))) .marks (now (plain .entry)) ⌝ }
+{
+    let action = m.back(plain);
+    m.marks(&action)
+}
+
 /// How many queries are in a set.
-fn count_set(set: &[bool; 8]) -> usize
+pub fn count_set(set: &[bool; 8]) -> usize
     ensures number { λ r. ⌜ r ≡ length (matches-at 0 0 (now (set .entry))) ⌝ }
     ensures few { λ r. ⌜ r ≤ 8 ⌝ }
 {
@@ -29,18 +37,18 @@ fn count_set(set: &[bool; 8]) -> usize
 pub fn count_matches<M: Machine>(m: &M, rows: &[Row], actions: &[M::Plain]) -> usize
     requires sizes { ⌜ length (now rows) ≡ length (now actions) ⌝ }
     requires few { ⌜ length (now rows) ≤ 4294967296 ⌝ }
-    ensures { λ r. ⌜ r ≡ length (row-matches (stored (model (now (m .entry)))) (paired (now (rows .entry)) (now (actions .entry)))) ⌝ }
+    ensures number { λ r. ⌜ r ≡ length (row-matches (stored (model (now (m .entry)))) (paired (now (rows .entry)) (now (actions .entry)))) ⌝ }
+    ensures few { λ r. ⌜ r ≤ 8 * length (now (rows .entry)) ⌝ }
 {
     let mut n = 0;
     for i in 0..rows.len() {
-        let action = m.back(&actions[i]);
-        n += count_set(&m.marks(&action));
+        n += count_set(&marked(m, &actions[i]));
     }
     n
 }
 
 /// Writes a match at `place` for each query of a set, lower queries first, from `at` on, and says where they end.
-fn write_set(matches: &mut [Match], at: usize, place: u32, set: &[bool; 8]) -> usize
+pub fn write_set(matches: &mut [Match], at: usize, place: u32, set: &[bool; 8]) -> usize
     requires { ⌜ at + length (matches-at place 0 (now set)) ≤ length (now matches) ⌝ }
     ensures written { λ _. ⌜ now (matches .exit) ≡ splice at (matches-at place 0 (now (set .entry))) (now (matches .entry)) ⌝ }
     ensures end { λ r. ⌜ r ≡ at + length (matches-at place 0 (now (set .entry))) ⌝ }
@@ -64,8 +72,7 @@ pub fn write_matches<M: Machine>(m: &M, rows: &[Row], actions: &[M::Plain], matc
 {
     let mut n = at;
     for i in 0..rows.len() {
-        let action = m.back(&actions[i]);
-        n = write_set(matches, n, rows[i].place, &m.marks(&action));
+        n = write_set(matches, n, rows[i].place, &marked(m, &actions[i]));
     }
     n
 }

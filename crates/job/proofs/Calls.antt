@@ -15,17 +15,25 @@ use Rattle.std.proofs.shelf.Lists.{length-take, length-drop, length-take-le, ge
 use Rattle.tags.specs.Bytes.{mark}
 use Rattle.tags.specs.Marks.{marks, part, marksOf, scanned}
 use Rattle.machine.specs.declared.refusal.Refusal.{Refusal}
+use Rattle.machine.specs.Model.{Model}
 use Rattle.rows.specs.declared.row.Row.{Row}
-use Rattle.rows.specs.Stretches.{joined-ends}
+use Rattle.rows.specs.Stretches.{joined-ends, last-put}
+use Rattle.rows.specs.Places.{stored, paired}
 use Rattle.rows.specs.declared.part.Kept.{Kept}
-use Rattle.rows.specs.Lists.{RowRule, kept-of, rows-of, actions-of, Written, Leaves}
+use Rattle.rows.specs.Lists.{RowRule, held, ends-of, kept-of, rows-of, actions-of, Written, Leaves}
 use Rattle.rows.specs.Pieces.{Content}
+use Rattle.answers.specs.declared.fault.Fault.{Fault}
+use Rattle.answers.specs.declared.matches.Match.{Match}
+use Rattle.answers.specs.Finish.{finish}
+use Rattle.job.specs.declared.answer.Answer.{Answer}
 use Rattle.job.specs.declared.piece.Piece.{Piece}
 use Rattle.job.specs.declared.job.Job.{Job}
 use Rattle.job.specs.Pieces.{InPlace, no-piece}
-use Rattle.job.specs.State.{State, World, world, seen, nth-piece, joined-marks, ruled, allowed, asked-open, asked-read, asked-join, opened, Open-says, with-kept, Turns, Refused, Unchanged, Accepted}
-use Rattle.job.proofs.Asked.{turns-some, read-free, join-free}
+use Rattle.job.specs.State.{State, World, world, seen, nth-piece, joined-marks, finished, all-inside, ruled, allowed, asked-open, asked-read, asked-join, asked-whole, asked-matches, opened, Open-says, with-kept, Turns, Refused, Unchanged, Accepted, Ended, Answer-says, Finish-says}
+use Rattle.job.proofs.Asked.{turns-some, read-free, join-free, finish-free, whole-later}
 use Rattle.job.proofs.Ruled.{rule-of}
+use Rattle.job.proofs.Splices.{part-front}
+use Rattle.job.proofs.Held.{take-paired}
 
 module _ {X : Type 0} where
   pub allowed-none : (o : Option Refusal) (x y : X) (r : Result X Refusal) → r ≡ allowed o x → r ≡ Ok y → (o ≡ None) × (y ≡ x)
@@ -180,3 +188,54 @@ opened-now size j r v says e = go (asked-open size) refl says
     go : (o : Option Refusal) → asked-open size ≡ o → Turns o (λ why. Refused why j r v) ((r ≡ Ok tt) × (v ≡ opened size)) → (asked-open size ≡ None) × (v ≡ opened size)
     go (Some why) q t = absurd (let x = t .reply in let z : _≡_ {A = ℕ} 0 1 = cc in omega arith)
     go None q t = (q, t .1)
+
+-- what a finish was told, where it may look at the rows: the first n of each list, as many as both have
+pub record FinishTold {A P : Type 0} (m : Model A P) (file : List ℕ) (j : Job) (rs : List Row) (ps : List P) (piece : ℕ) (p : Piece) (n : ℕ) : Type 0 where
+  pub none : asked-whole file (world j rs ps) piece None ≡ None
+  pub is : p ≡ nth-piece (seen j) piece
+  pub bytes : length file < 4294967296
+  pub sizes : length (take n rs) ≡ length (take n ps)
+  pub within : p .part .at + p .part .kept .rows ≤ length (take n rs)
+  pub rule : RowRule file (take n rs) (p .part .at) (p .part .kept .rows)
+  pub few : p .part .kept .rows ≤ 4294967296
+  pub same : finish (stored m) (last-put file (stored m) (ends-of (p .part)) (held (take n rs) (take n ps) (p .part))) ≡ finished file m (world j rs ps) (nth-piece (seen j) piece)
+
+pub finish-told : {A P : Type 0} (m : Model A P) (file : List ℕ) (j : Job) (rs : List Row) (ps : List P) (piece : ℕ) (p : Piece) (n : ℕ) (q : Result Piece Refusal) →
+    q ≡ allowed (asked-whole file (world j rs ps) piece None) (nth-piece (seen j) piece) → q ≡ Ok p →
+    n ≤ length rs → n ≤ length ps → ((k : ℕ) → k ≤ length rs → k ≤ length ps → k ≤ n) → FinishTold m file j rs ps piece p n
+finish-told m file j rs ps piece p n q e f in-rows in-acts most =
+    let a = allowed-none (asked-whole file (world j rs ps) piece None) (nth-piece (seen j) piece) p q e f in
+    subst (λ (x : Piece). FinishTold m file j rs ps piece x n) (sym (a .1)) (told (a .0))
+  where
+    told : asked-whole file (world j rs ps) piece None ≡ None → FinishTold m file j rs ps piece (nth-piece (seen j) piece) n
+    told none =
+        let free = finish-free file (world j rs ps) piece None none .0 in
+        let x = nth-piece (seen j) piece in
+        let px = placed-at j piece (free .made) in
+        let reach = free .reaches in
+        let at = x .part .at in
+        let k = x .part .kept .rows in
+        let fits : at + k ≤ n = most (at + k) (let b = px .2 in let h = reach .over-rows in omega arith) (let b = px .2 in let h = reach .over-acts in omega arith) in
+        let rows-are : take k (drop at (take n rs)) ≡ take k (drop at rs) = part-front n rs at k in-rows fits in
+        let acts-are : take k (drop at (take n ps)) ≡ take k (drop at ps) = part-front n ps at k in-acts fits in
+        let lr = length-take-le n rs in-rows in
+        let lp = length-take-le n ps in-acts in
+        let es : take k (paired (drop at (take n rs)) (drop at (take n ps))) ≡ take k (paired (drop at rs) (drop at ps)) =
+          take-paired k (drop at (take n rs)) (drop at (take n ps)) ∙ ap (λ xs. paired xs (take k (drop at (take n ps)))) rows-are ∙ ap (paired (take k (drop at rs))) acts-are ∙ sym (take-paired k (drop at rs) (drop at ps)) in
+        record {
+          none = none;
+          is = refl;
+          bytes = (let b = reach .same in let c = j .short in omega arith);
+          sizes = lr ∙ sym lp;
+          within = (let b = lr in omega arith);
+          rule = rule-of file (take n rs) at k (let b = lr in omega arith) (ap (all-inside file) rows-are ∙ free .rule);
+          few = (let b = px .3 in let c = px .4 in let d = px .1 in let u = j .short in omega arith);
+          same = ap (λ zs. finish (stored m) (last-put file (stored m) (ends-of (x .part)) (record { rows = zs; fault = x .part .kept .fault }))) es;
+        }
+
+-- an answer, where nothing was refused before
+pub finish-turns : {A P : Type 0} (m : Model A P) (file : List ℕ) (w : World P) (piece : ℕ) (o : Result (List Match) Fault) (ms : List Match) (r : Result Answer Refusal) (ns : List Match) →
+    asked-whole file w piece None ≡ None → o ≡ finished file m w (nth-piece (w .job) piece) → Answer-says o ms r ns → Finish-says file m w piece ms r ns
+finish-turns m file w piece o ms r ns none e says =
+    let p = finished file m w (nth-piece (w .job) piece) in
+    subst (λ x. Turns x (λ why. Refused why ms r ns) (Ended p ms r ns)) (sym (whole-later file w piece (asked-matches p (length ms)) none)) (subst (λ x. Answer-says x ms r ns) e says)

@@ -201,6 +201,10 @@ abbrev pub Ended : Result (List Match) Fault → List Match → Result Answer Re
 Ended (Err f) ms r ns = (r ≡ Ok (answer.Fault f)) × (ns ≡ ms)
 Ended (Ok xs) ms r ns = (r ≡ Ok (answer.Matches (length xs))) × (ns ≡ splice 0 xs ms)
 
+-- the same where only the match list may be too short
+abbrev pub Answer-says : Result (List Match) Fault → List Match → Result Answer Refusal → List Match → Type 0
+Answer-says o ms r ns = Turns (asked-matches o (length ms)) (λ why. Refused why ms r ns) (Ended o ms r ns)
+
 abbrev pub Finish-says : {A P : Type 0} → List ℕ → Model A P → World P → ℕ → List Match → Result Answer Refusal → List Match → Type 0
 Finish-says file m w piece ms r ns =
     Turns (asked-finish file m w piece (length ms))

@@ -5,6 +5,7 @@ ghost use lib.ListN.{length, getD};
 ghost use Rattle.job.specs.Pieces.{InPlace, no-piece};
 use crate::piece::Piece;
 
+pub mod answering;
 pub mod asks;
 pub mod calls;
 pub mod pieces;

@@ -39,24 +39,61 @@ fn related(machine: &mut RelationMachine, text: &[u8]) -> u8 {
 }
 
 const T: bool = true;
+
 const F: bool = false;
 
 /// A text, a path, and the queries that the path meets.
 static MET: [(&[u8], &[&[u8]], [bool; 8]); 14] = [
-    (b"/day/stop\n//stop\n/day//tour/*", &[b"day", b"tour", b"stop"], [F, T, T, F, F, F, F, F]),
-    (b"/day/stop\n//stop\n/day//tour/*", &[b"day", b"stop"], [T, T, F, F, F, F, F, F]),
-    (b"/day/stop\n//stop\n/day//tour/*", &[b"day", b"x", b"tour", b"y"], [F, F, T, F, F, F, F, F]),
+    (
+        b"/day/stop\n//stop\n/day//tour/*",
+        &[b"day", b"tour", b"stop"],
+        [F, T, T, F, F, F, F, F],
+    ),
+    (
+        b"/day/stop\n//stop\n/day//tour/*",
+        &[b"day", b"stop"],
+        [T, T, F, F, F, F, F, F],
+    ),
+    (
+        b"/day/stop\n//stop\n/day//tour/*",
+        &[b"day", b"x", b"tour", b"y"],
+        [F, F, T, F, F, F, F, F],
+    ),
     (b"/day\n//day", &[b"day", b"day"], [F, T, F, F, F, F, F, F]),
     (b"/day\n//day", &[b"day"], [T, T, F, F, F, F, F, F]),
     (b"/day\n//day", &[b"da"], [F, F, F, F, F, F, F, F]),
     (b"/day\n//day", &[b"days"], [F, F, F, F, F, F, F, F]),
-    (b"/day\n//day", &[b"not", b"in", b"any", b"query"], [F, F, F, F, F, F, F, F]),
-    (b"//*\n/*\n/*/*\n//*//*", &[b"p", b"q"], [T, F, T, T, F, F, F, F]),
+    (
+        b"/day\n//day",
+        &[b"not", b"in", b"any", b"query"],
+        [F, F, F, F, F, F, F, F],
+    ),
+    (
+        b"//*\n/*\n/*/*\n//*//*",
+        &[b"p", b"q"],
+        [T, F, T, T, F, F, F, F],
+    ),
     (b"//a//a", &[b"a", b"b", b"a"], [T, F, F, F, F, F, F, F]),
-    (b"//a/a/b", &[b"a", b"a", b"a", b"b"], [T, F, F, F, F, F, F, F]),
-    (b"//a/*/*/*/*", &[b"a", b"b", b"b", b"b", b"b"], [T, F, F, F, F, F, F, F]),
-    (b"//a/*/*/*/*", &[b"a", b"b", b"b", b"b", b"b", b"b"], [F, F, F, F, F, F, F, F]),
-    (b"/a\n/b\n/c\n/d\n//e\n//f\n//g\n//*", &[b"h", b"g"], [F, F, F, F, F, F, T, T]),
+    (
+        b"//a/a/b",
+        &[b"a", b"a", b"a", b"b"],
+        [T, F, F, F, F, F, F, F],
+    ),
+    (
+        b"//a/*/*/*/*",
+        &[b"a", b"b", b"b", b"b", b"b"],
+        [T, F, F, F, F, F, F, F],
+    ),
+    (
+        b"//a/*/*/*/*",
+        &[b"a", b"b", b"b", b"b", b"b", b"b"],
+        [F, F, F, F, F, F, F, F],
+    ),
+    (
+        b"/a\n/b\n/c\n/d\n//e\n//f\n//g\n//*",
+        &[b"h", b"g"],
+        [F, F, F, F, F, F, T, T],
+    ),
 ];
 
 #[test]
@@ -85,17 +122,35 @@ fn sets() -> Result<(), Fail> {
 #[test]
 fn thirty_two_and_thirty_three_sets() -> Result<(), Fail> {
     let mut table = TableMachine::new();
-    check_eq(tabled(&mut table, b"/*/*/*/*/*/*/*/*/*/*/*/*/*/*/*/*/*/*/*/*/*/*/*/*/*/*/*/*/*/*/*"), 5)?;
-    check_eq(tabled(&mut table, b"/*/*/*/*/*/*/*/*/*/*/*/*/*/*/*/*/*/*/*/*/*/*/*/*/*/*/*/*/*/*"), 0)
+    check_eq(
+        tabled(
+            &mut table,
+            b"/*/*/*/*/*/*/*/*/*/*/*/*/*/*/*/*/*/*/*/*/*/*/*/*/*/*/*/*/*/*/*",
+        ),
+        5,
+    )?;
+    check_eq(
+        tabled(
+            &mut table,
+            b"/*/*/*/*/*/*/*/*/*/*/*/*/*/*/*/*/*/*/*/*/*/*/*/*/*/*/*/*/*/*",
+        ),
+        0,
+    )
 }
 
 #[test]
 fn related_takes_more() -> Result<(), Fail> {
     let mut relation = RelationMachine::new();
     check_eq(related(&mut relation, b"//a/*/*/*/*/*"), 0)?;
-    check_eq(marked(&relation, &[b"a", b"b", b"b", b"b", b"b", b"b"])[0], true)?;
+    check_eq(
+        marked(&relation, &[b"a", b"b", b"b", b"b", b"b", b"b"])[0],
+        true,
+    )?;
     check_eq(related(&mut relation, b"//"), 2)?;
-    check_eq(marked(&relation, &[b"a", b"b", b"b", b"b", b"b", b"b"])[0], true)
+    check_eq(
+        marked(&relation, &[b"a", b"b", b"b", b"b", b"b", b"b"])[0],
+        true,
+    )
 }
 
 #[test]

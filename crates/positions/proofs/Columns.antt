@@ -29,7 +29,7 @@ other : (m n : List ℕ) → (m ≡ n → ⊥) → sameBytes m n ≡ false
 other m n h = elim (cases-bool (sameBytes m n)) [ inl t ↦ absurd (h (same-is m n t)) | inr f ↦ f ]
 
 column-cases : (k : List ℕ) (ks : List (List ℕ)) (m n : List ℕ) (a b : Bool) → sameBytes k m ≡ a → sameBytes k n ≡ b → 0 < column (k ∷ ks) m
-  → (0 < column ks m → eqb (column ks m) (column ks n) ≡ sameBytes m n) → eqb (column (k ∷ ks) m) (column (k ∷ ks) n) ≡ sameBytes m n
+    → (0 < column ks m → eqb (column ks m) (column ks n) ≡ sameBytes m n) → eqb (column (k ∷ ks) m) (column (k ∷ ks) n) ≡ sameBytes m n
 column-cases k ks m n true true p q h ih =
     let e : m ≡ n = sym (same-is k m p) ∙ same-is k n q in
     let t : sameBytes m n ≡ true = ap (sameBytes m) (sym e) ∙ same-refl m in

@@ -45,14 +45,14 @@ mask-set w bs j n l =
     ∙ sym (mask-push bs true ∙ ap (λ k. mask bs + 2 ^ k) n)
 
 pub mask-more : {X : Type 0} (w : ℕ) (f : X → Bool) (ps : List X) (d : X) (j : ℕ) → j < length ps → j < w → f (getD ps j d) ≡ true
-  → bitOr (mask (map f (take j ps))) ((1 * 2 ^ j) % 2 ^ w) ≡ mask (map f (take (j + 1) ps))
+    → bitOr (mask (map f (take j ps))) ((1 * 2 ^ j) % 2 ^ w) ≡ mask (map f (take (j + 1) ps))
 mask-more w f ps d j l h t =
     let bs = map f (take j ps) in
     let n : length bs ≡ j = length-map (take j ps) f ∙ length-take-le j ps (omega arith) in
     mask-set w bs j n h ∙ ap mask (sym (map-more f ps j d l ∙ ap (λ x. bs ++ x ∷ []) t))
 
 pub mask-skip : {X : Type 0} (f : X → Bool) (ps : List X) (d : X) (j : ℕ) → j < length ps → f (getD ps j d) ≡ false
-  → mask (map f (take j ps)) ≡ mask (map f (take (j + 1) ps))
+    → mask (map f (take j ps)) ≡ mask (map f (take (j + 1) ps))
 mask-skip f ps d j l t =
     let bs = map f (take j ps) in
     let p : mask (bs ++ false ∷ []) ≡ mask bs + 0 = mask-push bs false in
@@ -98,7 +98,7 @@ abbrev pub staying : List (Step ℕ) → ℕ
 staying ss = mask (map (λ s. s .deep) ss)
 
 moves : (ss : List (Step ℕ)) (c : ℕ) (came : Bool) (bs : List Bool) → length bs ≡ length ss → carry ss c came bs ≡ false
-  → bitOr (bitAnd (mask bs) (fitting ss c) * 2 + cond came 1 0) (bitAnd (mask bs) (staying ss)) ≡ mask (stepped ss c came bs)
+    → bitOr (bitAnd (mask bs) (fitting ss c) * 2 + cond came 1 0) (bitAnd (mask bs) (staying ss)) ≡ mask (stepped ss c came bs)
 unfolding mask
 moves [] c true [] e k = absurd (true≢false k)
 moves [] c false [] e k = refl
@@ -116,12 +116,12 @@ moves (s ∷ ss) c came (b ∷ bs) e k =
 
 -- a mask moves as the set that it stands for
 pub moved-is : (ss : List (Step ℕ)) (c : ℕ) (bs : List Bool) → length bs ≡ length ss → carry ss c false bs ≡ false
-  → moved (fitting ss c) (staying ss) (mask bs) ≡ mask (stepped ss c false bs)
+    → moved (fitting ss c) (staying ss) (mask bs) ≡ mask (stepped ss c false bs)
 moved-is ss c bs e k = ap (λ x. bitOr x (bitAnd (mask bs) (staying ss))) (sym (add-zero (bitAnd (mask bs) (fitting ss c) * 2))) ∙ moves ss c false bs e k
 
 -- the bits so far of a list of bits, and the first of those to come
 pub bits-more : (w : ℕ) (xs : List Bool) (j : ℕ) (b : Bool) → j < length xs → j < w → b ≡ getD xs j false
-  → cond b (bitOr (mask (take j xs)) ((1 * 2 ^ j) % 2 ^ w)) (mask (take j xs)) ≡ mask (take (j + 1) xs)
+    → cond b (bitOr (mask (take j xs)) ((1 * 2 ^ j) % 2 ^ w)) (mask (take j xs)) ≡ mask (take (j + 1) xs)
 bits-more w xs j true l h e = mask-set w (take j xs) j (length-take-le j xs (omega arith)) h ∙ ap mask (sym (take-more xs j false l ∙ ap (λ x. take j xs ++ x ∷ []) (sym e)))
 bits-more w xs j false l h e =
     let p : mask (take j xs ++ false ∷ []) ≡ mask (take j xs) + 0 = mask-push (take j xs) false in

@@ -22,7 +22,7 @@ or-none false = refl
 
 -- an end between two parts hands nothing on
 stepped-split : (q rest : List (Step ℕ)) (c : ℕ) (came : Bool) (bs cs : List Bool) → length bs ≡ suc (length q)
-  → stepped (q ++ asStep End ∷ rest) c came (bs ++ cs) ≡ stepped q c came bs ++ stepped rest c false cs
+    → stepped (q ++ asStep End ∷ rest) c came (bs ++ cs) ≡ stepped q c came bs ++ stepped rest c false cs
 stepped-split q rest c came [] cs e = absurd (omega arith)
 stepped-split [] rest c came (b ∷ []) cs e =
     ap (λ x. (came || x) ∷ stepped rest c x cs) (and-none b) ∙ ap (λ x. x ∷ stepped rest c false cs) (or-none came)
@@ -30,7 +30,7 @@ stepped-split [] rest c came (b ∷ x ∷ bs) cs e = absurd (omega arith)
 stepped-split (s ∷ q) rest c came (b ∷ bs) cs e = ap (λ x. (came || (b && s .deep)) ∷ x) (stepped-split q rest c (b && s .fits c) bs cs (omega arith))
 
 run-split : (q rest : List (Step ℕ)) (path : List ℕ) (bs cs : List Bool) → length bs ≡ suc (length q)
-  → run (q ++ asStep End ∷ rest) (bs ++ cs) path ≡ run q bs path ++ run rest cs path
+    → run (q ++ asStep End ∷ rest) (bs ++ cs) path ≡ run q bs path ++ run rest cs path
 run-split q rest [] bs cs e = refl
 run-split q rest (c ∷ path) bs cs e =
     ap (λ x. run (q ++ asStep End ∷ rest) x path) (stepped-split q rest c false bs cs e)
@@ -99,7 +99,7 @@ module _ (names : List (List ℕ)) (from : ℕ → Bool) (path : List ℕ) where
 
   -- the last position of the query j
   at-last : (k o j : ℕ) (qs : List Query) (before after : List Bool) → length before ≡ o → j < length qs
-    → getD (before ++ (parts k qs ++ after)) (getD (ends o qs) j 0) false ≡ (from (k + j) && meets? (columnSteps names (getD qs j [])) path)
+      → getD (before ++ (parts k qs ++ after)) (getD (ends o qs) j 0) false ≡ (from (k + j) && meets? (columnSteps names (getD qs j [])) path)
   at-last k o j [] before after e l = absurd (omega arith)
   at-last k o zero (q ∷ qs) before after e l =
       let n = length q in
@@ -123,7 +123,7 @@ module _ (names : List (List ℕ)) (from : ℕ → Bool) (path : List ℕ) where
 
   -- the last position of the query j is reached exactly if the query is begun and the columns meet it
   pub last-of : (qs : List Query) (rest : List (Step ℕ)) (cs : List Bool) (j : ℕ) → j < length qs
-    → getD (run (flat names qs rest) (started from 0 qs ++ cs) path) (getD (ends 0 qs) j 0) false ≡ (from j && meets? (columnSteps names (getD qs j [])) path)
+      → getD (run (flat names qs rest) (started from 0 qs ++ cs) path) (getD (ends 0 qs) j 0) false ≡ (from j && meets? (columnSteps names (getD qs j [])) path)
   last-of qs rest cs j l =
       ap (λ x. getD x (getD (ends 0 qs) j 0) false) (flat-run 0 qs rest cs)
       ∙ at-last 0 0 j qs [] (run rest cs path) refl l

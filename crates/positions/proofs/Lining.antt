@@ -26,15 +26,15 @@ pub record Lining (lasts : List ℕ) (q : ℕ) (first last : List ℕ) (next : �
 
 set-lt : (xs : List ℕ) (q v : ℕ) → length xs ≡ 8 → q < 8 → v < 32 → ((k : ℕ) → k < 8 → getD xs k 0 < 32) → (k : ℕ) → k < 8 → getD (set xs q v) k 0 < 32
 set-lt xs q v n l h old k kl = elim (cases-eq k q) [
-    inl e ↦ omega (arith, ap (λ j. getD (set xs q v) j 0) e, getD-set-same xs q v 0 (omega arith))
+  | inl e ↦ omega (arith, ap (λ j. getD (set xs q v) j 0) e, getD-set-same xs q v 0 (omega arith))
   | inr ne ↦ omega (arith, getD-set-other xs q k v 0 ne, old k kl)
-  ]
+]
 
 set-is : (xs : List ℕ) (q v : ℕ) (f : ℕ → ℕ) → q < length xs → v ≡ f q → ((k : ℕ) → k < q → getD xs k 0 ≡ f k) → (k : ℕ) → k < q + 1 → getD (set xs q v) k 0 ≡ f k
 set-is xs q v f l e old k kl = elim (cases-eq k q) [
-    inl s ↦ ap (λ j. getD (set xs q v) j 0) s ∙ getD-set-same xs q v 0 l ∙ e ∙ ap f (sym s)
+  | inl s ↦ ap (λ j. getD (set xs q v) j 0) s ∙ getD-set-same xs q v 0 l ∙ e ∙ ap f (sym s)
   | inr ne ↦ getD-set-other xs q k v 0 ne ∙ old k (omega arith)
-  ]
+]
 
 set-rest : (xs : List ℕ) (q v : ℕ) → ((k : ℕ) → q ≤ k → getD xs k 0 ≡ 0) → (k : ℕ) → q + 1 ≤ k → getD (set xs q v) k 0 ≡ 0
 set-rest xs q v old k l = getD-set-other xs q k v 0 (λ e. omega arith) ∙ old k (omega arith)
@@ -65,8 +65,8 @@ begun-low xs zero low rising l = omega arith
 begun-low xs (suc q) low rising l = omega (arith, rising q (omega arith), low (q + 1) (omega arith))
 
 pub lining-more : (lasts : List ℕ) (q : ℕ) (first last : List ℕ) (next : ℕ) → length lasts ≤ 8 → ((k : ℕ) → k < length lasts → getD lasts k 0 < 32)
-  → ((k : ℕ) → k + 1 < length lasts → getD lasts k 0 < getD lasts (k + 1) 0) → q < length lasts
-  → Lining lasts q first last next → Lining lasts (q + 1) (set first q next) (set last q (getD lasts q 0)) (getD lasts q 0 + 1)
+    → ((k : ℕ) → k + 1 < length lasts → getD lasts k 0 < getD lasts (k + 1) 0) → q < length lasts
+    → Lining lasts q first last next → Lining lasts (q + 1) (set first q next) (set last q (getD lasts q 0)) (getD lasts q 0 + 1)
 lining-more lasts q first last next few low rising l h = record {
   first-long = length-set first q next ∙ h .first-long;
   last-long = length-set last q (getD lasts q 0) ∙ h .last-long;

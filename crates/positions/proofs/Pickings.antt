@@ -90,8 +90,10 @@ powers-from (suc n) a s h =
     small zero h q = omega (arith, pow-pos a, pow-pos (a + 1))
     small (suc zero) h q = omega (arith, pow-pos a)
     small (suc (suc d)) h q = absurd (omega arith)
+
     regroup : (d e x : ℕ) → d * (x * 2) + e * x ≡ (d * 2 + e) * x
     regroup d e x = ap (λ y. d * y + e * x) (mul-comm x 2) ∙ ap (λ y. y + e * x) (sym (mul-assoc d 2 x)) ∙ sym (add-mul (d * 2) e x)
+
     whole : s / 2 * (2 ^ a * 2) + s % 2 * 2 ^ a ≡ s * 2 ^ a
     whole = regroup (s / 2) (s % 2) (2 ^ a) ∙ ap (λ x. x * 2 ^ a) (let e : s / 2 * 2 + s % 2 ≡ s = omega arith in e)
 
@@ -119,12 +121,12 @@ lowest (suc k) n p h = go (λ e. lowest k (n / 2) (omega arith) (let q = pow-suc
           inside = omega (arith, low .inside);
           above = low .above;
           split =
-            let p = pow-suc 2 t in
-            let q = pow-suc 2 (suc t) in
-            let s = low .split in
-            let m = mul-assoc (low .above) (2 ^ suc t) 2 in
-            let n2 : n ≡ n / 2 * 2 = omega arith in
-            n2 ∙ ap (λ x. x * 2) s ∙ add-mul (low .above * 2 ^ suc t) (2 ^ t) 2 ∙ ap₂ _+_ (m ∙ ap (λ x. low .above * x) (sym q)) (sym p);
+              let p = pow-suc 2 t in
+              let q = pow-suc 2 (suc t) in
+              let s = low .split in
+              let m = mul-assoc (low .above) (2 ^ suc t) 2 in
+              let n2 : n ≡ n / 2 * 2 = omega arith in
+              n2 ∙ ap (λ x. x * 2) s ∙ add-mul (low .above * 2 ^ suc t) (2 ^ t) 2 ∙ ap₂ _+_ (m ∙ ap (λ x. low .above * x) (sym q)) (sym p);
         }
     go half (suc d) e = record { inside = omega arith; above = n / 2; split = omega arith }
 
@@ -142,7 +144,7 @@ lowest-le k n t low = omega (arith, low .split)
 
 -- a turn of a loop that picks row by row
 pub pick-more : (k got left total t bit : ℕ) (xs : List ℕ) → Lowest k left t → bit ≡ 2 ^ t → bitOr got (picked left xs) ≡ total
-  → bitOr (bitOr got (getD xs t 0)) (picked (left - bit) xs) ≡ total
+    → bitOr (bitOr got (getD xs t 0)) (picked (left - bit) xs) ≡ total
 pick-more k got left total t bit xs low b e =
     or-assoc got (getD xs t 0) (picked (left - bit) xs)
     ∙ ap (λ x. bitOr got (bitOr (getD xs t 0) (picked (left - x) xs))) b
@@ -166,4 +168,4 @@ pub picked-joined : (n s : ℕ) (xs ys : List ℕ) → length xs ≡ n → picke
 picked-joined n s xs ys e =
     picked-picked s xs ys
     ∙ ap (picked s) (is-tab (λ k. picked (getD xs k 0) ys) (map (λ x. picked x ys) xs) n 0 (length-map xs (λ x. picked x ys) ∙ e)
-      (λ k h. getD-map (λ x. picked x ys) xs k 0 0 (subst (λ m. k < m) (sym e) h)))
+    (λ k h. getD-map (λ x. picked x ys) xs k 0 0 (subst (λ m. k < m) (sym e) h)))

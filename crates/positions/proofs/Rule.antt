@@ -30,7 +30,7 @@ length-same (s ∷ ss) n came (b ∷ bs) e = ap suc (length-same ss n (b && s .f
 
 -- the masks of steps, and the run of sets as masks
 pub run-masks : (ss : List (Step ℕ)) (fits : List ℕ) (stays n : ℕ) → Sealed ss → ((c : ℕ) → c < n → getD fits c 0 ≡ fitting ss c) → stays ≡ staying ss
-  → (cs : List ℕ) (bs : List Bool) → All (λ c. c < n) cs → length bs ≡ length ss → runBy (movedOn fits stays) (mask bs) cs ≡ mask (run ss bs cs)
+    → (cs : List ℕ) (bs : List Bool) → All (λ c. c < n) cs → length bs ≡ length ss → runBy (movedOn fits stays) (mask bs) cs ≡ mask (run ss bs cs)
 unfolding movedOn
 run-masks ss fits stays n closed f d [] bs a e = refl
 run-masks ss fits stays n closed f d (c ∷ cs) bs a e =
@@ -62,6 +62,7 @@ fitting-idle ps k c = ap mask (bits ps) ∙ mask-append-none (map (λ p. fitsAt 
     idles : (k : ℕ) → map (λ s. s .fits c) (replicate k idle) ≡ replicate k false
     idles zero = refl
     idles (suc k) = ap (λ x. false ∷ x) (idles k)
+
     bits : (ps : List Position) → map (λ s. s .fits c) (map asStep ps ++ replicate k idle) ≡ map (λ p. fitsAt p c) ps ++ replicate k false
     bits [] = idles k
     bits (p ∷ ps) = ap (λ x. fitsAt p c ∷ x) (bits ps)
@@ -72,6 +73,7 @@ staying-idle ps k = ap mask (bits ps)
     idles : (k : ℕ) → map (λ s. s .deep) (replicate k idle) ≡ replicate k true
     idles zero = refl
     idles (suc k) = ap (λ x. true ∷ x) (idles k)
+
     bits : (ps : List Position) → map (λ s. s .deep) (map asStep ps ++ replicate k idle) ≡ map deepAt ps ++ replicate k true
     bits [] = idles k
     bits (p ∷ ps) = ap (λ x. deepAt p ∷ x) (bits ps)
@@ -126,8 +128,7 @@ first-alone k o (suc j) (q ∷ qs) l =
     ∙ first-alone (suc k) (o + n + 1) j qs (omega arith)
 
 module _ (names : List (List ℕ)) (qs : List Query) (fits : List ℕ) (n : ℕ) (within : length names < n)
-  (masks : (c : ℕ) → c < n → getD fits c 0 ≡ fitMask (positions names qs) c) (listed : All (Listed names) qs) where
-
+    (masks : (c : ℕ) → c < n → getD fits c 0 ≡ fitMask (positions names qs) c) (listed : All (Listed names) qs) where
   abbrev cols : List (List ℕ) → List ℕ
   cols path = map (column names) path
 
@@ -142,7 +143,7 @@ module _ (names : List (List ℕ)) (qs : List Query) (fits : List ℕ) (n : ℕ)
 
   -- from the positions 0 of the queries that `from` names
   runs : (from : ℕ → Bool) (k : ℕ) (stays : ℕ) → stays ≡ mask (map deepAt (positions names qs) ++ replicate k true) → (path : List (List ℕ)) (j : ℕ) → j < length qs
-    → has (runBy (movedOn fits stays) (mask (started from 0 qs ++ replicate k false)) (cols path)) (getD (ends 0 qs) j 0) ≡ (from j && meets? (map asked (getD qs j [])) path)
+      → has (runBy (movedOn fits stays) (mask (started from 0 qs ++ replicate k false)) (cols path)) (getD (ends 0 qs) j 0) ≡ (from j && meets? (map asked (getD qs j [])) path)
   runs from k stays s path j l =
       let rest = replicate k idle in
       let ps = positions names qs in
@@ -151,14 +152,14 @@ module _ (names : List (List ℕ)) (qs : List Query) (fits : List ℕ) (n : ℕ)
       let bs = started from 0 qs ++ replicate k false in
       let long : length bs ≡ length ss = omega (arith, length-append (started from 0 qs) (replicate k false), length-started from 0 qs, length-replicate k false, ap length is, length-append (map asStep ps) rest, length-map ps asStep, length-replicate k idle, length-positions names qs) in
       ap (λ x. has x (getD (ends 0 qs) j 0))
-        (run-masks ss fits stays n (sealed-flat names qs rest (sealed-idle k)) (λ c h. masks c h ∙ sym (ap (λ x. fitting x c) is ∙ fitting-idle ps k c)) (s ∙ sym (ap staying is ∙ staying-idle ps k)) (cols path) bs (cols-lt path) long)
+      (run-masks ss fits stays n (sealed-flat names qs rest (sealed-idle k)) (λ c h. masks c h ∙ sym (ap (λ x. fitting x c) is ∙ fitting-idle ps k c)) (s ∙ sym (ap staying is ∙ staying-idle ps k)) (cols path) bs (cols-lt path) long)
       ∙ has-mask (run ss bs (cols path)) (getD (ends 0 qs) j 0)
       ∙ last-of names from (cols path) qs rest (replicate k false) j l
       ∙ ap (λ b. from j && b) (columns-meet names (getD qs j []) path (listed-at qs j listed l))
 
   -- from the set of all positions 0
   pub all-meets : (path : List (List ℕ)) (j : ℕ) → j < length qs
-    → has (runBy (movedOn fits (deepMask (positions names qs))) (mask (begins qs)) (cols path)) (getD (ends 0 qs) j 0) ≡ meets? (map asked (getD qs j [])) path
+      → has (runBy (movedOn fits (deepMask (positions names qs))) (mask (begins qs)) (cols path)) (getD (ends 0 qs) j 0) ≡ meets? (map asked (getD qs j [])) path
   all-meets path j l =
       let ps = positions names qs in
       ap (λ x. has (runBy (movedOn fits (deepMask ps)) (mask x) (cols path)) (getD (ends 0 qs) j 0)) (begins-is 0 qs ∙ sym (append-nil (started (λ _. true) 0 qs)))
@@ -166,14 +167,14 @@ module _ (names : List (List ℕ)) (qs : List Query) (fits : List ℕ) (n : ℕ)
 
   -- from the query's own position 0
   pub one-meets : (w : ℕ) (path : List (List ℕ)) (j : ℕ) → j < length qs
-    → has (runBy (movedOn fits (restMask w (positions names qs))) (2 ^ getD (firsts 0 qs) j 0) (cols path)) (getD (ends 0 qs) j 0) ≡ meets? (map asked (getD qs j [])) path
+      → has (runBy (movedOn fits (restMask w (positions names qs))) (2 ^ getD (firsts 0 qs) j 0) (cols path)) (getD (ends 0 qs) j 0) ≡ meets? (map asked (getD qs j [])) path
   one-meets w path j l =
       let ps = positions names qs in
       let from = eqb j in
       let k = w - length ps in
       let here : from j ≡ true = grind (arith, tells) in
       let start : mask (started from 0 qs ++ replicate k false) ≡ 2 ^ getD (firsts 0 qs) j 0 =
-        mask-append-none (started from 0 qs) k ∙ ap (λ i. mask (started (eqb i) 0 qs)) (let z : j ≡ 0 + j = omega arith in z) ∙ first-alone 0 0 j qs l in
+      mask-append-none (started from 0 qs) k ∙ ap (λ i. mask (started (eqb i) 0 qs)) (let z : j ≡ 0 + j = omega arith in z) ∙ first-alone 0 0 j qs l in
       ap (λ x. has (runBy (movedOn fits (restMask w ps)) x (cols path)) (getD (ends 0 qs) j 0)) (sym start)
       ∙ runs from k (restMask w ps) refl path j l
       ∙ ap (λ b. b && meets? (map asked (getD qs j [])) path) here
@@ -220,7 +221,7 @@ starts-are names (q ∷ qs) = start-query names q true (positions names qs) ∙ 
 
 -- one bit on
 pub starts-more : (b : Bool) (ps : List Position) (xs : List Bool) (j : ℕ) → j < length ps → length xs ≡ length ps → startBits b (drop j ps) ≡ drop j xs
-  → (b ≡ getD xs j false) × (startBits (isEnd (getD ps j End)) (drop (j + 1) ps) ≡ drop (j + 1) xs)
+    → (b ≡ getD xs j false) × (startBits (isEnd (getD ps j End)) (drop (j + 1) ps) ≡ drop (j + 1) xs)
 starts-more b ps xs j l n e =
     let p = drop-more ps j End l in
     let x = drop-more xs j false (omega arith) in

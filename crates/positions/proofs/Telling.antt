@@ -28,8 +28,7 @@ yes qs k path b l e =
     decides-like b (λ m. record { line = l; meets = m }) (λ m. m .meets) (decides-at b (meets? (map asked (getD qs k [])) path) e (meets-decides (map asked (getD qs k [])) path))
 
 module _ (qs : List Query) (l : Lines) (lines : LinesOf qs l) (setOf : List (List ℕ) → ℕ → ℕ)
-  (moves : (path : List (List ℕ)) (k : ℕ) → k < length qs → has (setOf path k) (getD (ends 0 qs) k 0) ≡ meets? (map asked (getD qs k [])) path) where
-
+    (moves : (path : List (List ℕ)) (k : ℕ) → k < length qs → has (setOf path k) (getD (ends 0 qs) k 0) ≡ meets? (map asked (getD qs k [])) path) where
   at-line : (path : List (List ℕ)) (k : ℕ) → k < length qs → (ltb k (l .count) && has (setOf path k) (getD (l .last) k 0)) ≡ meets? (map asked (getD qs k [])) path
   at-line path k h =
       ap₂ _&&_ (lt-ltb k (l .count) (omega (arith, lines .count))) (ap (has (setOf path k)) (lines .last k h))
@@ -42,16 +41,16 @@ module _ (qs : List Query) (l : Lines) (lines : LinesOf qs l) (setOf : List (Lis
   by-rule = record {
     eight = λ path. length-tab _ 8;
     tells = λ path k. elim (cases-lt k (length qs)) [
-        inl h ↦ yes qs k path (getD (marked l (setOf path)) k false) h (getD-tab _ 8 k false (omega (arith, lines .count, l .within)) ∙ at-line path k h)
+      | inl h ↦ yes qs k path (getD (marked l (setOf path)) k false) h (getD-tab _ 8 k false (omega (arith, lines .count, l .within)) ∙ at-line path k h)
       | inr h ↦ no (MeetsQuery qs k path) (λ m. omega (arith, m .line)) (getD (marked l (setOf path)) k false) (elim (cases-lt k 8) [
-            inl e ↦ getD-tab _ 8 k false e ∙ at-none path k h
-          | inr e ↦ getD-past (marked l (setOf path)) k false (omega (arith, length-tab (λ q. ltb q (l .count) && has (setOf path q) (getD (l .last) q 0)) 8))
-          ])
-      ];
+        | inl e ↦ getD-tab _ 8 k false e ∙ at-none path k h
+        | inr e ↦ getD-past (marked l (setOf path)) k false (omega (arith, length-tab (λ q. ltb q (l .count) && has (setOf path q) (getD (l .last) q 0)) 8))
+      ])
+    ];
   }
 
 -- without queries none is marked
 pub marked-none : (l : Lines) (setOf : ℕ → ℕ) → l .count ≡ 0 → marked l setOf ≡ replicate 8 false
 marked-none l setOf e =
     sym (is-tab _ (replicate 8 false) 8 false (length-replicate 8 false)
-      (λ k h. getD-replicate 8 k false false h ∙ sym (ap (λ t. t && has (setOf k) (getD (l .last) k 0)) (le-ltb k (l .count) (omega arith)))))
+    (λ k h. getD-replicate 8 k false false h ∙ sym (ap (λ t. t && has (setOf k) (getD (l .last) k 0)) (le-ltb k (l .count) (omega arith)))))

@@ -32,21 +32,21 @@ pub or-assoc : (a b c : ℕ) → bitOr (bitOr a b) c ≡ bitOr a (bitOr b c)
 or-assoc =
     bin-ind (λ (n : ℕ). (b c : ℕ) → bitOr (bitOr n b) c ≡ bitOr n (bitOr b c)) (λ b c. refl)
     (λ n ih b c. by-digits _ _
-      (or-shr (bitOr n b) c 1 ∙ ap (λ (x : ℕ). bitOr x (c / 2)) (or-shr n b 1) ∙ ih (b / 2) (c / 2)
-        ∙ sym (or-shr n (bitOr b c) 1 ∙ ap (bitOr (n / 2)) (or-shr b c 1)))
-      (or-mod (bitOr n b) c 1 ∙ ap (λ (x : ℕ). bitOr x (c % 2)) (or-mod n b 1)
-        ∙ digit-or (n % 2) (b % 2) (c % 2) (omega arith) (omega arith) (omega arith)
-        ∙ sym (or-mod n (bitOr b c) 1 ∙ ap (bitOr (n % 2)) (or-mod b c 1))))
+    (or-shr (bitOr n b) c 1 ∙ ap (λ (x : ℕ). bitOr x (c / 2)) (or-shr n b 1) ∙ ih (b / 2) (c / 2)
+    ∙ sym (or-shr n (bitOr b c) 1 ∙ ap (bitOr (n / 2)) (or-shr b c 1)))
+    (or-mod (bitOr n b) c 1 ∙ ap (λ (x : ℕ). bitOr x (c % 2)) (or-mod n b 1)
+    ∙ digit-or (n % 2) (b % 2) (c % 2) (omega arith) (omega arith) (omega arith)
+    ∙ sym (or-mod n (bitOr b c) 1 ∙ ap (bitOr (n % 2)) (or-mod b c 1))))
 
 pub and-or : (a b c : ℕ) → bitAnd (bitOr a b) c ≡ bitOr (bitAnd a c) (bitAnd b c)
 and-or =
     bin-ind (λ (n : ℕ). (b c : ℕ) → bitAnd (bitOr n b) c ≡ bitOr (bitAnd n c) (bitAnd b c)) (λ b c. refl)
     (λ n ih b c. by-digits _ _
-      (and-shr (bitOr n b) c 1 ∙ ap (λ (x : ℕ). bitAnd x (c / 2)) (or-shr n b 1) ∙ ih (b / 2) (c / 2)
-        ∙ sym (or-shr (bitAnd n c) (bitAnd b c) 1 ∙ ap₂ bitOr (and-shr n c 1) (and-shr b c 1)))
-      (and-mod (bitOr n b) c 1 ∙ ap (λ (x : ℕ). bitAnd x (c % 2)) (or-mod n b 1)
-        ∙ digit-and (n % 2) (b % 2) (c % 2) (omega arith) (omega arith) (omega arith)
-        ∙ sym (or-mod (bitAnd n c) (bitAnd b c) 1 ∙ ap₂ bitOr (and-mod n c 1) (and-mod b c 1))))
+    (and-shr (bitOr n b) c 1 ∙ ap (λ (x : ℕ). bitAnd x (c / 2)) (or-shr n b 1) ∙ ih (b / 2) (c / 2)
+    ∙ sym (or-shr (bitAnd n c) (bitAnd b c) 1 ∙ ap₂ bitOr (and-shr n c 1) (and-shr b c 1)))
+    (and-mod (bitOr n b) c 1 ∙ ap (λ (x : ℕ). bitAnd x (c % 2)) (or-mod n b 1)
+    ∙ digit-and (n % 2) (b % 2) (c % 2) (omega arith) (omega arith) (omega arith)
+    ∙ sym (or-mod (bitAnd n c) (bitAnd b c) 1 ∙ ap₂ bitOr (and-mod n c 1) (and-mod b c 1))))
 
 -- a bit of a union
 pub odd-or : (a b : ℕ) → eqb (bitOr a b % 2) 1 ≡ (eqb (a % 2) 1 || eqb (b % 2) 1)

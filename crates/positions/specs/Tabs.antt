@@ -31,7 +31,8 @@ tab-same f g n d same = is-tab g (tab f n) n d (length-tab f n) (λ k h. getD-ta
 
 -- a turn of a loop that writes f k at each place k
 pub filled-more : {X : Type 0} (f : ℕ → X) (xs : List X) (n i : ℕ) (v d : X) → i < n → v ≡ f i → (length xs ≡ n) × ((k : ℕ) → k < i → getD xs k d ≡ f k)
-  → (length (set xs i v) ≡ n) × ((k : ℕ) → k < i + 1 → getD (set xs i v) k d ≡ f k)
-filled-more f xs n i v d l e h =
-    (length-set xs i v ∙ h .0,
-     λ k b. ap (λ x. getD (set xs i x) k d) e ∙ fill-by-more f xs i d (omega (arith, h .0)) (h .1) k b)
+    → (length (set xs i v) ≡ n) × ((k : ℕ) → k < i + 1 → getD (set xs i v) k d ≡ f k)
+filled-more f xs n i v d l e h = (
+  length-set xs i v ∙ h .0,
+  λ k b. ap (λ x. getD (set xs i x) k d) e ∙ fill-by-more f xs i d (omega (arith, h .0)) (h .1) k b,
+)

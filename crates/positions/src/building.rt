@@ -16,7 +16,11 @@ impl Lines {
     pub fn none() -> Lines
         ensures { λ r. ⌜ (r .count ≡ 0) × (r .first ≡ replicate 8 0) × (r .last ≡ replicate 8 0) ⌝ }
     {
-        Lines { first: [0; 8], last: [0; 8], count: 0 }
+        Lines {
+            first: [0; 8],
+            last: [0; 8],
+            count: 0,
+        }
     }
 
     /// Of queries with these last positions.
@@ -37,7 +41,11 @@ impl Lines {
             last[q] = lasts[q] as u8;
             next = lasts[q] + 1;
         }
-        Lines { first, last, count: lasts.len() }
+        Lines {
+            first,
+            last,
+            count: lasts.len(),
+        }
     }
 
     /// Where these queries begin and end.
@@ -53,7 +61,10 @@ impl Moves {
     pub fn none() -> Moves
         ensures { λ r. ⌜ ((c : ℕ) → getD (r .fits) c 0 ≡ 0) × (r .stays ≡ 2 ^ 32 - 1) ⌝ }
     {
-        Moves { fits: [0; 16], stays: u32::MAX }
+        Moves {
+            fits: [0; 16],
+            stays: u32::MAX,
+        }
     }
 
     /// Of the positions of these queries, where `stays` lead to themselves.
@@ -61,6 +72,9 @@ impl Moves {
         ensures fits { λ r. ⌜ r .fits ≡ fitMasks (positions (listedNames (now (queries .entry))) (queriesOf (now (queries .entry)))) ⌝ }
         ensures stays { λ r. ⌜ r .stays ≡ stays ⌝ }
     {
-        Moves { fits: fit_masks(queries.positions()), stays }
+        Moves {
+            fits: fit_masks(queries.positions()),
+            stays,
+        }
     }
 }

@@ -17,11 +17,11 @@ use Rattle.relation.specs.declared.relation.RelationMachine.{RelationMachine}
 use Rattle.relation.specs.Relations.{columnOf, movesOf, verdictOf}
 
 pub related-rule : (m : RelationMachine) (qs : List Query) → All (Listed (namesOf (m .names))) qs → LinesOf qs (m .lines)
-  → m .moves .fits ≡ fitMasks (positions (namesOf (m .names)) qs) → m .moves .stays ≡ restMask 32 (positions (namesOf (m .names)) qs) → ByRule qs (verdictOf m)
+    → m .moves .fits ≡ fitMasks (positions (namesOf (m .names)) qs) → m .moves .stays ≡ restMask 32 (positions (namesOf (m .names)) qs) → ByRule qs (verdictOf m)
 related-rule m qs listed lines f s =
     let names = namesOf (m .names) in
     let ps = positions names qs in
     by-rule qs (m .lines) lines (λ path q. runBy (movesOf m) (2 ^ getD (m .lines .first) q 0) (map (columnOf m) path))
     (λ path k l.
-      ap₂ (λ next start. has (runBy next start (map (columnOf m) path)) (getD (ends 0 qs) k 0)) (ap₂ movedOn f s) (ap (λ j. 2 ^ j) (lines .first k l))
-      ∙ one-meets names qs (fitMasks ps) 16 (names-few (m .names)) (λ c h. getD-tab (fitMask ps) 16 c 0 h) listed 32 path k l)
+    ap₂ (λ next start. has (runBy next start (map (columnOf m) path)) (getD (ends 0 qs) k 0)) (ap₂ movedOn f s) (ap (λ j. 2 ^ j) (lines .first k l))
+    ∙ one-meets names qs (fitMasks ps) 16 (names-few (m .names)) (λ c h. getD-tab (fitMask ps) 16 c 0 h) listed 32 path k l)

@@ -2,8 +2,8 @@
 mod action;
 mod compose;
 mod make;
-mod relation;
 pub mod related;
+mod relation;
 
 pub use action::RelationAction;
 pub use relation::RelationMachine;

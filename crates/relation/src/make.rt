@@ -15,7 +15,7 @@ use machine::Queries;
 use machine::Refusal;
 use positions::Lines;
 use positions::Moves;
-use positions::masks::rest_mask;
+use positions::rest_mask;
 
 impl RelationMachine {
     /// The machine of no queries, which marks nothing.
@@ -24,7 +24,11 @@ impl RelationMachine {
         ensures marks { λ r. ⌜ ((a : RelationAction) → related r .marks a ≡ replicate 8 false) ⌝ }
         ensures stays { λ r. ⌜ ((n : List ℕ) → related r .action n ≡ related r .stay) ⌝ }
     {
-        RelationMachine { names: Names::none(), moves: Moves::none(), lines: Lines::none() }
+        RelationMachine {
+            names: Names::none(),
+            moves: Moves::none(),
+            lines: Lines::none(),
+        }
     }
 
     fn of(queries: &Queries) -> RelationMachine
@@ -33,7 +37,11 @@ impl RelationMachine {
         let stays = rest_mask(queries.positions());
         let moves = Moves::of(queries, stays);
         let lines = Lines::of(queries);
-        RelationMachine { names: queries.names(), moves, lines }
+        RelationMachine {
+            names: queries.names(),
+            moves,
+            lines,
+        }
     }
 
     /// The machine of the text's queries. A refused text leaves the machine as it was.

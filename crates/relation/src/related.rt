@@ -4,10 +4,11 @@ use crate::action::RelationAction;
 use crate::compose::pick;
 use crate::relation::RelationMachine;
 use machine::Machine;
-use positions::marking::holds;
+use positions::holds;
 
 pub impl Machine for RelationMachine as RelationMachineMachine {
     type Action = RelationAction;
+
     type Plain = RelationAction;
 
     ghost model = { related };

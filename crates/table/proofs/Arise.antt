@@ -22,9 +22,9 @@ use Rattle.table.specs.Arising.{Arises, ClosureFinds}
 module _ (P : ℕ → Type 0) (f : ℕ → ℕ → ℕ) (cols : ℕ) (on : (s c : ℕ) → c < cols → P s → P (f s c)) where
   added-every : (xs : List ℕ) (x : ℕ) → All P xs → P x → All P (added xs x)
   added-every xs x a p = elim (cases-lt (place x xs) (length xs)) [
-      inl h ↦ subst (All P) (sym (added-old xs x h)) a
+    | inl h ↦ subst (All P) (sym (added-old xs x h)) a
     | inr h ↦ subst (All P) (sym (added-new xs x h)) (all-push P xs x a p)
-    ]
+  ]
 
   tried-every : (s c n : ℕ) (xs : List ℕ) → c + n ≤ cols → P s → All P xs → All P (tried f s c n xs)
   tried-every s c zero xs l p a = a
@@ -36,8 +36,8 @@ module _ (P : ℕ → Type 0) (f : ℕ → ℕ → ℕ) (cols : ℕ) (on : (s c 
   closure-every (suc n) i xs a =
       let t = tried f (getD xs i 0) 0 cols xs in
       elim (cases-lt i (length xs)) [
-        inl h ↦ subst (All P) (sym (cond-true (ltb i (length xs)) (closure f cols n (i + 1) t) xs (lt-ltb i (length xs) h))) (closure-every n (i + 1) t (tried-every (getD xs i 0) 0 cols xs (omega arith) (all-getD P xs i 0 h a) a))
-      | inr h ↦ subst (All P) (sym (cond-false (ltb i (length xs)) (closure f cols n (i + 1) t) xs (le-ltb i (length xs) h))) a
+        | inl h ↦ subst (All P) (sym (cond-true (ltb i (length xs)) (closure f cols n (i + 1) t) xs (lt-ltb i (length xs) h))) (closure-every n (i + 1) t (tried-every (getD xs i 0) 0 cols xs (omega arith) (all-getD P xs i 0 h a) a))
+        | inr h ↦ subst (All P) (sym (cond-false (ltb i (length xs)) (closure f cols n (i + 1) t) xs (le-ltb i (length xs) h))) a
       ]
 
 run-push : (f : ℕ → ℕ → ℕ) (s c : ℕ) (cs : List ℕ) → runBy f s (cs ++ c ∷ []) ≡ f (runBy f s cs) c
@@ -57,19 +57,19 @@ Own xs = (k : ℕ) → k < length xs → place (getD xs k 0) xs ≡ k
 
 own-push : (xs : List ℕ) (x : ℕ) → length xs ≤ place x xs → Own xs → Own (xs ++ x ∷ [])
 own-push xs x new o k l = elim (cases-lt k (length xs)) [
-    inl h ↦
+  | inl h ↦
       let e = getD-append-left xs (x ∷ []) 0 k h in
       ap (λ y. place y (xs ++ x ∷ [])) e ∙ place-append (getD xs k 0) xs (x ∷ []) (omega (arith, o k h)) ∙ o k h
   | inr h ↦
       let q : k ≡ length xs = omega (arith, length-push xs x) in
       ap (λ y. place y (xs ++ x ∷ [])) (getD-push xs x 0 k (sym q)) ∙ place-push x xs new ∙ sym q
-  ]
+]
 
 own-added : (xs : List ℕ) (x : ℕ) → Own xs → Own (added xs x)
 own-added xs x o = elim (cases-lt (place x xs) (length xs)) [
-    inl h ↦ subst Own (sym (added-old xs x h)) o
+  | inl h ↦ subst Own (sym (added-old xs x h)) o
   | inr h ↦ subst Own (sym (added-new xs x h)) (own-push xs x h o)
-  ]
+]
 
 own-tried : (f : ℕ → ℕ → ℕ) (s c n : ℕ) (xs : List ℕ) → Own xs → Own (tried f s c n xs)
 own-tried f s c zero xs o = o
@@ -81,8 +81,8 @@ own-closure f cols zero i xs o = o
 own-closure f cols (suc n) i xs o =
     let t = tried f (getD xs i 0) 0 cols xs in
     elim (cases-lt i (length xs)) [
-      inl h ↦ subst Own (sym (cond-true (ltb i (length xs)) (closure f cols n (i + 1) t) xs (lt-ltb i (length xs) h))) (own-closure f cols n (i + 1) t (own-tried f (getD xs i 0) 0 cols xs o))
-    | inr h ↦ subst Own (sym (cond-false (ltb i (length xs)) (closure f cols n (i + 1) t) xs (le-ltb i (length xs) h))) o
+      | inl h ↦ subst Own (sym (cond-true (ltb i (length xs)) (closure f cols n (i + 1) t) xs (lt-ltb i (length xs) h))) (own-closure f cols n (i + 1) t (own-tried f (getD xs i 0) 0 cols xs o))
+      | inr h ↦ subst Own (sym (cond-false (ltb i (length xs)) (closure f cols n (i + 1) t) xs (le-ltb i (length xs) h))) o
     ]
 
 -- a list that goes on
@@ -107,10 +107,10 @@ tried-has f s c zero d xs l h = absurd (omega arith)
 tried-has f s c (suc n) d xs l h =
     let new = added xs (f s c) in
     elim (cases-eq c d) [
-      inl e ↦
-        let here : place (f s c) new < length new = omega (arith, place-added (f s c) xs, place-added-lt (f s c) xs) in
-        subst (λ k. place (f s k) (tried f s (c + 1) n new) < length (tried f s (c + 1) n new)) e (place-on (f s c) new (tried f s (c + 1) n new) (tried-on f s (c + 1) n new) here)
-    | inr e ↦ tried-has f s (c + 1) n d new (omega arith) (omega arith)
+      | inl e ↦
+          let here : place (f s c) new < length new = omega (arith, place-added (f s c) xs, place-added-lt (f s c) xs) in
+          subst (λ k. place (f s k) (tried f s (c + 1) n new) < length (tried f s (c + 1) n new)) e (place-on (f s c) new (tried f s (c + 1) n new) (tried-on f s (c + 1) n new) here)
+      | inr e ↦ tried-has f s (c + 1) n d new (omega arith) (omega arith)
     ]
 
 -- the states below i lead to states
@@ -123,9 +123,9 @@ closed-tried f cols i xs l h a c al cl =
     let on = tried-on f (getD xs i 0) 0 cols xs in
     let e : getD t a 0 ≡ getD xs a 0 = getD-on xs t a on (omega arith) in
     let now : place (f (getD xs a 0) c) t < length t = elim (cases-lt a i) [
-        inl k ↦ place-on (f (getD xs a 0) c) xs t on (h a c k cl)
+      | inl k ↦ place-on (f (getD xs a 0) c) xs t on (h a c k cl)
       | inr k ↦ let q : i ≡ a = omega arith in subst (λ b. place (f (getD xs b 0) c) t < length t) q (tried-has f (getD xs i 0) 0 cols c xs (omega arith) (omega arith))
-      ] in
+    ] in
     subst (λ s. place (f s c) t < length t) (sym e) now
 
 closed-closure : (f : ℕ → ℕ → ℕ) (cols n i : ℕ) (xs : List ℕ) → i ≤ length xs → Closed f cols i xs → length (closure f cols n i xs) ≤ i + n → Closed f cols (length (closure f cols n i xs)) (closure f cols n i xs)
@@ -136,13 +136,13 @@ closed-closure f cols (suc n) i xs l h s =
     let r = closure f cols n (i + 1) t in
     let P : List ℕ → Type 0 = λ zs. length zs ≤ i + suc n → Closed f cols (length zs) zs in
     let both : P (cond (ltb i (length xs)) r xs) = elim (cases-lt i (length xs)) [
-        inl k ↦ subst P (sym (cond-true (ltb i (length xs)) r xs (lt-ltb i (length xs) k))) (λ m. closed-closure f cols n (i + 1) t (omega (arith, tried-grows f (getD xs i 0) 0 cols xs)) (closed-tried f cols i xs k h) (omega arith))
+      | inl k ↦ subst P (sym (cond-true (ltb i (length xs)) r xs (lt-ltb i (length xs) k))) (λ m. closed-closure f cols n (i + 1) t (omega (arith, tried-grows f (getD xs i 0) 0 cols xs)) (closed-tried f cols i xs k h) (omega arith))
       | inr k ↦ subst P (sym (cond-false (ltb i (length xs)) r xs (le-ltb i (length xs) k))) (λ m a c al cl. h a c (omega arith) cl)
-      ] in
+    ] in
     both s
 
 reach : (f : ℕ → ℕ → ℕ) (cols : ℕ) (xs : List ℕ) → Closed f cols (length xs) xs → (cs : List ℕ) (k : ℕ) → k < length xs → All (λ c. c < cols) cs
-  → (j : ℕ) × (j < length xs) × (getD xs j 0 ≡ runBy f (getD xs k 0) cs)
+    → (j : ℕ) × (j < length xs) × (getD xs j 0 ≡ runBy f (getD xs k 0) cs)
 reach f cols xs h [] k l a = (k, l, refl)
 reach f cols xs h (c ∷ cs) k l a =
     let x = f (getD xs k 0) c in
@@ -165,8 +165,8 @@ closure-keeps f cols (suc n) i xs l =
     let t = tried f (getD xs i 0) 0 cols xs in
     let g = tried-grows f (getD xs i 0) 0 cols xs in
     elim (cases-lt i (length xs)) [
-      inl h ↦ ap (λ zs. getD zs 0 0) (cond-true (ltb i (length xs)) (closure f cols n (i + 1) t) xs (lt-ltb i (length xs) h)) ∙ closure-keeps f cols n (i + 1) t (omega arith) ∙ tried-keeps f (getD xs i 0) 0 cols xs l
-    | inr h ↦ ap (λ zs. getD zs 0 0) (cond-false (ltb i (length xs)) (closure f cols n (i + 1) t) xs (le-ltb i (length xs) h))
+      | inl h ↦ ap (λ zs. getD zs 0 0) (cond-true (ltb i (length xs)) (closure f cols n (i + 1) t) xs (lt-ltb i (length xs) h)) ∙ closure-keeps f cols n (i + 1) t (omega arith) ∙ tried-keeps f (getD xs i 0) 0 cols xs l
+      | inr h ↦ ap (λ zs. getD zs 0 0) (cond-false (ltb i (length xs)) (closure f cols n (i + 1) t) xs (le-ltb i (length xs) h))
     ]
 
 pub closure-finds : ClosureFinds
@@ -176,13 +176,14 @@ closure-finds f cols start n =
     let all = closure-every (Arises f cols start) f cols (arises-on f cols start) n 0 (start ∷ []) (record { path = []; used = tt; there = refl }, tt) in
     let long : 0 < length xs = omega (arith, closure-grows f cols n 0 (start ∷ [])) in
     let arise : (k : ℕ) → k < length xs → Arises f cols start (getD xs k 0) = λ k l. all-getD (Arises f cols start) xs k 0 l all in
-    let apart : (j k : ℕ) → j < length xs → k < length xs → getD xs j 0 ≡ getD xs k 0 → j ≡ k = λ j k jl kl e. sym (own j jl) ∙ ap (λ x. place x xs) e ∙ own k kl in
-    (λ few. record {
-       arise = arise;
-       apart = apart;
-       every = λ set a.
-         let c = closed-closure f cols n 0 (start ∷ []) (omega arith) (λ b d bl dl. absurd (omega arith)) (omega arith) in
-         let r = reach f cols xs c (a .path) 0 long (a .used) in
-         (r .0, r .1, r .2 ∙ ap (λ y. runBy f y (a .path)) (closure-keeps f cols n 0 (start ∷ []) (omega arith)) ∙ a .there);
-     },
-     λ many. record { sets = xs; many = many; arise = arise; apart = apart })
+    let apart : (j k : ℕ) → j < length xs → k < length xs → getD xs j 0 ≡ getD xs k 0 → j ≡ k = λ j k jl kl e. sym (own j jl) ∙ ap (λ x. place x xs) e ∙ own k kl in (
+      λ few. record {
+        arise = arise;
+        apart = apart;
+        every = λ set a.
+            let c = closed-closure f cols n 0 (start ∷ []) (omega arith) (λ b d bl dl. absurd (omega arith)) (omega arith) in
+            let r = reach f cols xs c (a .path) 0 long (a .used) in
+            (r .0, r .1, r .2 ∙ ap (λ y. runBy f y (a .path)) (closure-keeps f cols n 0 (start ∷ []) (omega arith)) ∙ a .there);
+      },
+      λ many. record { sets = xs; many = many; arise = arise; apart = apart },
+    )

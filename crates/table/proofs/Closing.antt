@@ -30,8 +30,8 @@ closure-grows f cols (suc n) i sets =
     let g = tried-grows f (getD sets i 0) 0 cols sets in
     let h = closure-grows f cols n (i + 1) t in
     elim (cases-lt i (length sets)) [
-      inl l ↦ omega (arith, ap length (cond-true (ltb i (length sets)) (closure f cols n (i + 1) t) sets (lt-ltb i (length sets) l)))
-    | inr l ↦ omega (arith, ap length (cond-false (ltb i (length sets)) (closure f cols n (i + 1) t) sets (le-ltb i (length sets) l)))
+      | inl l ↦ omega (arith, ap length (cond-true (ltb i (length sets)) (closure f cols n (i + 1) t) sets (lt-ltb i (length sets) l)))
+      | inr l ↦ omega (arith, ap length (cond-false (ltb i (length sets)) (closure f cols n (i + 1) t) sets (le-ltb i (length sets) l)))
     ]
 
 pub record Closing (f : ℕ → ℕ → ℕ) (cols : ℕ) (start : List ℕ) (i : ℕ) (sets table : List ℕ) : Type 0 where
@@ -40,7 +40,7 @@ pub record Closing (f : ℕ → ℕ → ℕ) (cols : ℕ) (start : List ℕ) (i 
   pub state : i ≤ length sets
 
 pub closing-more : (f : ℕ → ℕ → ℕ) (cols : ℕ) (start : List ℕ) (i : ℕ) (sets table sets′ table′ : List ℕ) → i < 32 → i < length sets
-  → sets′ ≡ tried f (getD sets i 0) 0 cols sets → Filled f cols ((i + 1) * 16) sets′ table′ → Closing f cols start i sets table → Closing f cols start (i + 1) sets′ table′
+    → sets′ ≡ tried f (getD sets i 0) 0 cols sets → Filled f cols ((i + 1) * 16) sets′ table′ → Closing f cols start i sets table → Closing f cols start (i + 1) sets′ table′
 closing-more f cols start i sets table sets′ table′ il l e h t = record {
   going = ap (closure f cols (32 - (i + 1)) (i + 1)) e ∙ sym (closure-more f cols 32 i sets il l) ∙ t .going;
   filled = h;
@@ -48,13 +48,13 @@ closing-more f cols start i sets table sets′ table′ il l e h t = record {
 }
 
 pub closing-over : (f : ℕ → ℕ → ℕ) (cols : ℕ) (start : List ℕ) (i : ℕ) (sets table : List ℕ) → i < 32 → i < length sets
-  → 32 < length (tried f (getD sets i 0) 0 cols sets) → Closing f cols start i sets table → 32 < length (closure f cols 32 0 start)
+    → 32 < length (tried f (getD sets i 0) 0 cols sets) → Closing f cols start i sets table → 32 < length (closure f cols 32 0 start)
 closing-over f cols start i sets table il l h t =
     let s = tried f (getD sets i 0) 0 cols sets in
     omega (arith, ap length (sym (closure-more f cols 32 i sets il l) ∙ t .going), closure-grows f cols (32 - (i + 1)) (i + 1) s)
 
 pub closing-all : (f : ℕ → ℕ → ℕ) (cols : ℕ) (start : List ℕ) (i : ℕ) (sets table : List ℕ) → length sets ≤ i → Closing f cols start i sets table
-  → (sets ≡ closure f cols 32 0 start) × Filled f cols (length sets * 16) sets table
+    → (sets ≡ closure f cols 32 0 start) × Filled f cols (length sets * 16) sets table
 closing-all f cols start i sets table l t =
     let e : i ≡ length sets = omega (arith, t .state) in
     (sym (closure-all f cols (32 - i) i sets l) ∙ t .going, subst (λ k. Filled f cols (k * 16) sets table) e (t .filled))
@@ -65,9 +65,9 @@ filled-ok f cols upto sets table few h k l = subst (λ n. getD table n 0 < 32) (
   where
     at : (a b : ℕ) → a < 32 → b < 16 → getD table (a * 16 + b) 0 < 32
     at a b al bl = elim (cases-lt b cols) [
-        inl u ↦ elim (cases-lt (a * 16 + b) upto) [
-          inl v ↦ omega (arith, h .done a b u v, h .found a b u v)
+      | inl u ↦ elim (cases-lt (a * 16 + b) upto) [
+        | inl v ↦ omega (arith, h .done a b u v, h .found a b u v)
         | inr v ↦ omega (arith, h .rest a b al bl (λ _. v))
-        ]
-      | inr u ↦ omega (arith, h .rest a b al bl (λ v. absurd (omega arith)))
       ]
+      | inr u ↦ omega (arith, h .rest a b al bl (λ v. absurd (omega arith)))
+    ]

@@ -15,12 +15,12 @@ filled-append : (f : ℕ → ℕ → ℕ) (cols upto : ℕ) (xs ys table : List 
 filled-append f cols upto xs ys table l h = record {
   size = h .size;
   done = λ a b k u.
-    let at : getD (xs ++ ys) a 0 ≡ getD xs a 0 = getD-append-left xs ys 0 a (omega arith) in
-    h .done a b k u ∙ sym (ap (λ s. place (f s b) (xs ++ ys)) at ∙ place-append (f (getD xs a 0) b) xs ys (h .found a b k u));
+      let at : getD (xs ++ ys) a 0 ≡ getD xs a 0 = getD-append-left xs ys 0 a (omega arith) in
+      h .done a b k u ∙ sym (ap (λ s. place (f s b) (xs ++ ys)) at ∙ place-append (f (getD xs a 0) b) xs ys (h .found a b k u));
   found = λ a b k u.
-    let at : getD (xs ++ ys) a 0 ≡ getD xs a 0 = getD-append-left xs ys 0 a (omega arith) in
-    let p = ap (λ s. place (f s b) (xs ++ ys)) at ∙ place-append (f (getD xs a 0) b) xs ys (h .found a b k u) in
-    omega (arith, p, h .found a b k u, length-append xs ys);
+      let at : getD (xs ++ ys) a 0 ≡ getD xs a 0 = getD-append-left xs ys 0 a (omega arith) in
+      let p = ap (λ s. place (f s b) (xs ++ ys)) at ∙ place-append (f (getD xs a 0) b) xs ys (h .found a b k u) in
+      omega (arith, p, h .found a b k u, length-append xs ys);
   rest = h .rest;
 }
 
@@ -30,30 +30,30 @@ filled-added f cols upto xs table x l h =
     subst (λ zs. Filled f cols upto zs table) (sym (m .1)) (filled-append f cols upto xs (m .0) table l h)
 
 pub filled-more : (f : ℕ → ℕ → ℕ) (cols i c : ℕ) (xs table : List ℕ) (v : ℕ) → c < cols → cols ≤ 16 → i < 32
-  → v ≡ place (f (getD xs i 0) c) xs → v < length xs → Filled f cols (i * 16 + c) xs table → Filled f cols (i * 16 + (c + 1)) xs (set table (i * 16 + c) v)
+    → v ≡ place (f (getD xs i 0) c) xs → v < length xs → Filled f cols (i * 16 + c) xs table → Filled f cols (i * 16 + (c + 1)) xs (set table (i * 16 + c) v)
 filled-more f cols i c xs table v cl w il e vl h = record {
   size = length-set table (i * 16 + c) v ∙ h .size;
   done = λ a b k u. elim (cases-lt (a * 16 + b) (i * 16 + c)) [
-      inl l ↦ getD-set-other table (i * 16 + c) (a * 16 + b) v 0 (λ q. omega arith) ∙ h .done a b k l
+    | inl l ↦ getD-set-other table (i * 16 + c) (a * 16 + b) v 0 (λ q. omega arith) ∙ h .done a b k l
     | inr l ↦
         let p : a * 16 + b ≡ i * 16 + c = omega arith in
         let q : i ≡ a = omega arith in
         let r : c ≡ b = omega arith in
         ap (λ n. getD (set table (i * 16 + c) v) n 0) p ∙ getD-set-same table (i * 16 + c) v 0 (omega (arith, h .size)) ∙ e ∙ ap (λ n. place (f (getD xs n 0) c) xs) q ∙ ap (λ n. place (f (getD xs a 0) n) xs) r
-    ];
+  ];
   found = λ a b k u. elim (cases-lt (a * 16 + b) (i * 16 + c)) [
-      inl l ↦ h .found a b k l
+    | inl l ↦ h .found a b k l
     | inr l ↦
         let q : i ≡ a = omega arith in
         let r : c ≡ b = omega arith in
         omega (arith, e, ap (λ n. place (f (getD xs n 0) c) xs) q, ap (λ n. place (f (getD xs a 0) n) xs) r)
-    ];
+  ];
   rest = λ a b al bl u.
-    let old : b < cols → i * 16 + c ≤ a * 16 + b = λ k. omega (arith, u k) in
-    elim (cases-eq (a * 16 + b) (i * 16 + c)) [
-      inl q ↦ let r : b ≡ c = omega arith in absurd (omega (arith, u (omega arith)))
-    | inr q ↦ getD-set-other table (i * 16 + c) (a * 16 + b) v 0 q ∙ h .rest a b al bl old
-    ];
+      let old : b < cols → i * 16 + c ≤ a * 16 + b = λ k. omega (arith, u k) in
+      elim (cases-eq (a * 16 + b) (i * 16 + c)) [
+        | inl q ↦ let r : b ≡ c = omega arith in absurd (omega (arith, u (omega arith)))
+        | inr q ↦ getD-set-other table (i * 16 + c) (a * 16 + b) v 0 q ∙ h .rest a b al bl old
+      ];
 }
 
 pub filled-row : (f : ℕ → ℕ → ℕ) (cols i : ℕ) (xs table : List ℕ) → cols ≤ 16 → Filled f cols (i * 16 + cols) xs table → Filled f cols ((i + 1) * 16) xs table

@@ -19,8 +19,7 @@ use Rattle.table.proofs.Arise.{closure-finds}
 use Rattle.table.proofs.Trying.{length-seen}
 
 module _ (names : List (List ℕ)) (qs : List Query) (m : Moves) (start cols : ℕ) (fits : m .fits ≡ fitMasks (positions names qs))
-  (stays : m .stays ≡ deepMask (positions names qs)) (begin : start ≡ mask (startBits true (positions names qs))) (all : cols ≡ length names + 1) where
-
+    (stays : m .stays ≡ deepMask (positions names qs)) (begin : start ≡ mask (startBits true (positions names qs))) (all : cols ≡ length names + 1) where
   next-is : byMoves m ≡ leads (positions names qs)
   next-is = ap₂ movedOn fits stays
 
@@ -40,4 +39,4 @@ module _ (names : List (List ℕ)) (qs : List Query) (m : Moves) (start cols : �
   many-of h =
       closure-finds (leads (positions names qs)) (length names + 1) (mask (begins qs)) 32 .1
       (subst (λ f. 32 < length (closure f (length names + 1) 32 0 (mask (begins qs) ∷ []))) next-is
-        (subst (λ x. 32 < length (closure (byMoves m) (length names + 1) 32 0 (x ∷ []))) start-is (subst (λ n. 32 < length (closure (byMoves m) n 32 0 (start ∷ []))) all h)))
+      (subst (λ x. 32 < length (closure (byMoves m) (length names + 1) 32 0 (x ∷ []))) start-is (subst (λ n. 32 < length (closure (byMoves m) n 32 0 (start ∷ []))) all h)))

@@ -51,19 +51,19 @@ added-length sets n x l h =
 
 pub place-added : (x : ℕ) (xs : List ℕ) → place x (added xs x) ≡ place x xs
 place-added x xs = elim (cases-lt (place x xs) (length xs)) [
-    inl h ↦ ap (place x) (added-old xs x h)
+  | inl h ↦ ap (place x) (added-old xs x h)
   | inr h ↦ ap (place x) (added-new xs x h) ∙ place-push x xs h ∙ omega (arith, place-le x xs)
-  ]
+]
 
 pub place-added-lt : (x : ℕ) (xs : List ℕ) → place x xs < length (added xs x)
 place-added-lt x xs = elim (cases-lt (place x xs) (length xs)) [
-    inl h ↦ omega (arith, ap length (added-old xs x h))
+  | inl h ↦ omega (arith, ap length (added-old xs x h))
   | inr h ↦ omega (arith, place-le x xs, ap length (added-new xs x h), length-push xs x)
-  ]
+]
 
 -- what a added list is: the list, with something more
 pub added-more : (xs : List ℕ) (x : ℕ) → (ys : List ℕ) × (added xs x ≡ xs ++ ys)
 added-more xs x = elim (cases-lt (place x xs) (length xs)) [
-    inl h ↦ ([], added-old xs x h ∙ sym (append-nil xs))
+  | inl h ↦ ([], added-old xs x h ∙ sym (append-nil xs))
   | inr h ↦ (x ∷ [], added-new xs x h)
-  ]
+]

@@ -22,7 +22,7 @@ use Rattle.table.proofs.Closing.{closure-grows}
 use Rattle.table.proofs.Walks.{walks}
 
 pub table-rule : (m : TableMachine) (qs : List Query) → All (Listed (namesOf (m .names))) qs → LinesOf qs (m .lines)
-  → Made (leads (positions (namesOf (m .names)) qs)) (length (namesOf (m .names)) + 1) (mask (begins qs)) (m .states) → ByRule qs (verdictOf m)
+    → Made (leads (positions (namesOf (m .names)) qs)) (length (namesOf (m .names)) + 1) (mask (begins qs)) (m .states) → ByRule qs (verdictOf m)
 table-rule m qs listed lines made =
     let names = namesOf (m .names) in
     let ps = positions names qs in
@@ -34,7 +34,7 @@ table-rule m qs listed lines made =
     let first : getD sets 0 0 ≡ start = ap (λ zs. getD zs 0 0) (made .all) ∙ closure-keeps (leads ps) cols 32 0 (start ∷ []) (omega arith) in
     by-rule qs (m .lines) lines (λ path q. setAt (m .states .found) (walk (m .states .next) 0 (map (columnOf m) path)))
     (λ path k l.
-      ap (λ x. has x (getD (ends 0 qs) k 0))
-        (walks (leads ps) cols sets (m .states .next) (made .filled) (omega arith) 0 (map (columnOf m) path) long (columns-lt names path)
-          ∙ ap (λ x. runBy (leads ps) x (map (columnOf m) path)) first)
-      ∙ all-meets names qs (fitMasks ps) 16 few (λ c h. getD-tab (fitMask ps) 16 c 0 h) listed path k l)
+    ap (λ x. has x (getD (ends 0 qs) k 0))
+    (walks (leads ps) cols sets (m .states .next) (made .filled) (omega arith) 0 (map (columnOf m) path) long (columns-lt names path)
+    ∙ ap (λ x. runBy (leads ps) x (map (columnOf m) path)) first)
+    ∙ all-meets names qs (fitMasks ps) 16 few (λ c h. getD-tab (fitMask ps) 16 c 0 h) listed path k l)

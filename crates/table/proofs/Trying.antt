@@ -34,7 +34,7 @@ trying-none f cols i s sets table h l e = record {
 }
 
 pub trying-more : (f : ℕ → ℕ → ℕ) (cols i s : ℕ) (start : List ℕ) (c : ℕ) (sets table : List ℕ) (x at : ℕ) (sets′ : List ℕ) → c < cols → cols ≤ 16 → i < 32
-  → x ≡ f s c → at ≡ place x sets → sets′ ≡ added sets x → Trying f cols i s start c sets table → Trying f cols i s start (c + 1) sets′ (set table (i * 16 + c) at)
+    → x ≡ f s c → at ≡ place x sets → sets′ ≡ added sets x → Trying f cols i s start c sets table → Trying f cols i s start (c + 1) sets′ (set table (i * 16 + c) at)
 trying-more f cols i s start c sets table x at sets′ l w il xe ae se t =
     let new = added sets x in
     let here : getD new i 0 ≡ s = added-keeps sets x i (t .state) ∙ t .same in
@@ -48,13 +48,14 @@ trying-more f cols i s start c sets table x at sets′ l w il xe ae se t =
     subst (λ zs. Trying f cols i s start (c + 1) zs (set table (i * 16 + c) at)) (sym se) r
 
 pub trying-over : (f : ℕ → ℕ → ℕ) (cols i s : ℕ) (start : List ℕ) (c : ℕ) (sets table : List ℕ) (x : ℕ) → c < cols → x ≡ f s c → 32 < length (added sets x)
-  → Trying f cols i s start c sets table → 32 < length (tried f s 0 cols start)
+    → Trying f cols i s start c sets table → 32 < length (tried f s 0 cols start)
 trying-over f cols i s start c sets table x l xe h t =
     let e : tried f s (c + 1) (cols - (c + 1)) (added sets x) ≡ tried f s 0 cols start = ap (λ y. tried f s (c + 1) (cols - (c + 1)) (added sets y)) xe ∙ sym (tried-more f s c cols sets l) ∙ t .going in
     omega (arith, ap length e, tried-grows f s (c + 1) (cols - (c + 1)) (added sets x))
 
 pub trying-all : (f : ℕ → ℕ → ℕ) (cols i s : ℕ) (start : List ℕ) (c : ℕ) (sets table : List ℕ) → c ≡ cols → cols ≤ 16 → Trying f cols i s start c sets table
-  → (sets ≡ tried f s 0 cols start) × Filled f cols ((i + 1) * 16) sets table
-trying-all f cols i s start c sets table e w t =
-    (sym (tried-all f s c cols sets (omega arith)) ∙ t .going,
-     filled-row f cols i sets table w (subst (λ k. Filled f cols (i * 16 + k) sets table) e (t .filled)))
+    → (sets ≡ tried f s 0 cols start) × Filled f cols ((i + 1) * 16) sets table
+trying-all f cols i s start c sets table e w t = (
+  sym (tried-all f s c cols sets (omega arith)) ∙ t .going,
+  filled-row f cols i sets table w (subst (λ k. Filled f cols (i * 16 + k) sets table) e (t .filled)),
+)

@@ -12,7 +12,7 @@ use Rattle.table.specs.Tables.{walk}
 use Rattle.table.proofs.Places.{place-at}
 
 pub walks : (f : ℕ → ℕ → ℕ) (cols : ℕ) (sets table : List ℕ) → Filled f cols (length sets * 16) sets table → cols ≤ 16 → (s : ℕ) (cs : List ℕ) → s < length sets → All (λ c. c < cols) cs
-  → getD sets (walk table s cs) 0 ≡ runBy f (getD sets s 0) cs
+    → getD sets (walk table s cs) 0 ≡ runBy f (getD sets s 0) cs
 walks f cols sets table h w s [] l a = refl
 walks f cols sets table h w s (c ∷ cs) l a =
     let t = getD table (s * 16 + c) 0 in

@@ -29,5 +29,5 @@ pub record AllArising (next : ℕ → ℕ → ℕ) (columns start : ℕ) (sets :
 -- the closure finds all sets that arise if these are at most `limit`, and else more than that many
 abbrev pub ClosureFinds : Type 0
 ClosureFinds = (next : ℕ → ℕ → ℕ) (columns start limit : ℕ)
-  → (length (closure next columns limit 0 (start ∷ [])) ≤ limit → AllArising next columns start (closure next columns limit 0 (start ∷ [])))
-  × (limit < length (closure next columns limit 0 (start ∷ [])) → MoreArise next columns start limit)
+    → (length (closure next columns limit 0 (start ∷ [])) ≤ limit → AllArising next columns start (closure next columns limit 0 (start ∷ [])))
+    × (limit < length (closure next columns limit 0 (start ∷ [])) → MoreArise next columns start limit)

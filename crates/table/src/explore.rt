@@ -28,7 +28,13 @@ impl States {
         ensures count { λ r. ⌜ r .found .count ≡ 0 ⌝ }
         ensures next { λ r. ⌜ ((k : ℕ) → k < 512 → getD (r .next) k 0 ≡ k / 16) ⌝ }
     {
-        States { found: Found { sets: [0; 32], count: 0 }, next: themselves() }
+        States {
+            found: Found {
+                sets: [0; 32],
+                count: 0,
+            },
+            next: themselves(),
+        }
     }
 }
 

@@ -9,7 +9,13 @@ use crate::found::Found;
 use positions::Moves;
 
 /// Tries each column in state i; false if a 33rd set arises.
-pub fn try_state(moves: &Moves, columns: usize, found: &mut Found, next: &mut [u8], i: usize) -> bool
+pub fn try_state(
+    moves: &Moves,
+    columns: usize,
+    found: &mut Found,
+    next: &mut [u8],
+    i: usize,
+) -> bool
     requires columns { ⌜ columns ≤ 16 ⌝ }
     requires state { ⌜ i < now found .count ⌝ }
     requires filled { ⌜ Filled (byMoves (now moves)) columns (i * 16) (seen (now found)) (now next) ⌝ }

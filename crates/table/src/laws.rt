@@ -5,10 +5,8 @@ ghost use Rattle.table.specs.Examples.{Examples};
 /// The closure finds the sets that arise, each once, or tells that there are more than its limit.
 pub fn closure_finds()
     ensures { λ _. ⌜ ClosureFinds ⌝ }
-{
-}
+{}
 
 pub fn examples()
     ensures { λ _. ⌜ Examples ⌝ }
-{
-}
+{}

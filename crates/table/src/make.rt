@@ -18,8 +18,8 @@ use machine::Queries;
 use machine::Refusal;
 use positions::Lines;
 use positions::Moves;
-use positions::masks::deep_mask;
-use positions::masks::start_mask;
+use positions::deep_mask;
+use positions::start_mask;
 
 impl TableMachine {
     /// The machine of no queries, which marks nothing.
@@ -28,7 +28,11 @@ impl TableMachine {
         ensures marks { λ r. ⌜ ((a : TableAction) → tabled r .marks a ≡ replicate 8 false) ⌝ }
         ensures stays { λ r. ⌜ ((n : List ℕ) → tabled r .action n ≡ tabled r .stay) ⌝ }
     {
-        TableMachine { names: Names::none(), states: States::none(), lines: Lines::none() }
+        TableMachine {
+            names: Names::none(),
+            states: States::none(),
+            lines: Lines::none(),
+        }
     }
 
     fn of(queries: &Queries) -> Option<TableMachine>
@@ -39,7 +43,11 @@ impl TableMachine {
         let start = start_mask(queries.positions());
         let states = explore(&moves, start, queries.name_count() + 1)?;
         let lines = Lines::of(queries);
-        Some(TableMachine { names: queries.names(), states, lines })
+        Some(TableMachine {
+            names: queries.names(),
+            states,
+            lines,
+        })
     }
 
     /// The machine of the text's queries. A refused text leaves the machine as it was.

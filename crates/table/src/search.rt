@@ -7,6 +7,9 @@ ghost use Rattle.table.specs.Closure.{place, added};
 ghost use Rattle.table.specs.Filling.{seen};
 use crate::found::Found;
 
+/// How many states there may be.
+const MOST_STATES: usize = 32;
+
 /// Where the set stands first, or how many there are.
 pub fn place_of(sets: &[u32], set: u32) -> usize
     ensures { λ r. ⌜ r ≡ place set (now (sets .entry)) ⌝ }
@@ -28,7 +31,7 @@ impl Found {
         if at < self.count {
             return Some(at);
         }
-        if self.count == 32 {
+        if self.count == MOST_STATES {
             return None;
         }
         let count = self.count;

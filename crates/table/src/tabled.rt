@@ -22,6 +22,7 @@ impl Found {
 
 pub impl Machine for TableMachine as TableMachineMachine {
     type Action = TableAction;
+
     type Plain = [u8; 32];
 
     ghost model = { tabled };

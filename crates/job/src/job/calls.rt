@@ -7,6 +7,7 @@ ghost use Rattle.rows.specs.Lists.{ends-of};
 ghost use Rattle.job.specs.State.{world, Unchanged, Read-says, Join-says, Finish-says};
 use crate::answer::Answer;
 use crate::job::Job;
+use crate::job::answering::answer;
 use answers::Match;
 use machine::Machine;
 use machine::Refusal;
@@ -56,7 +57,7 @@ impl Job {
         ensures { λ r. ⌜ Finish-says (now (file .entry)) (model (now (m .entry))) (world (now (self .entry)) (now (rows .entry)) (now (actions .entry))) piece (now (matches .entry)) r (now (matches .exit)) ⌝ }
     {
         let p = self.ask_finish(file, rows, actions, piece)?;
-        let _ = p;
-        Ok(Answer::Matches(0))
+        let n = rows.len().min(actions.len());
+        answer(m, file, &rows[..n], &actions[..n], matches, p.part)
     }
 }

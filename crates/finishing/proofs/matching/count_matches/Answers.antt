@@ -18,12 +18,15 @@ loop-i-again g c =
     let rs = c .args .rows .now in
     let p = c .index-actions-i .result in
     let i = c .loop-i .i in
-    let set : c .marks .result ≡ m .marks (m .back p) = c .marks .ensures ∙ ap (m .marks) (c .back-action .ensures) in
-    let own : c .count-set-n .result ≡ length (matches-at (at rs i .place) 0 (m .marks (m .back p))) = c .count-set-n .ensures .number ∙ ap (λ l. length (matches-at 0 0 l)) set ∙ matches-number 0 0 (at rs i .place) 0 (m .marks (m .back p)) in
-    let all = ap length (next-row m rs (c .args .actions .now) (c .pre .sizes) i (omega arith) p (c .index-actions-i .is)) ∙ length-append (row-matches (stored m) (take i (paired rs (c .args .actions .now)))) (matches-at (at rs i .place) 0 (m .marks (m .back p))) in
+    let set = c .marked .ensures in
+    let own : c .count-set-n .result ≡ length (matches-at (at rs i .place) 0 (stored m .marks p)) = c .count-set-n .ensures .number ∙ ap (λ l. length (matches-at 0 0 l)) set ∙ matches-number 0 0 (at rs i .place) 0 (stored m .marks p) in
+    let all = ap length (next-row m rs (c .args .actions .now) (c .pre .sizes) i (omega arith) p (c .index-actions-i .is)) ∙ length-append (row-matches (stored m) (take i (paired rs (c .args .actions .now)))) (matches-at (at rs i .place) 0 (stored m .marks p)) in
     (omega (arith, all, own, c .loop-i .inv .0), omega (arith, c .count-set-n .ensures .few))
 
 pub returns : need.returns
-returns g c =
+returns g c = record {
+  number =
     c .loop-i .inv .0
-    ∙ ap (λ l. length (row-matches (stored (g .M·Machine .model (c .args .m .now))) l)) (take-all (c .loop-i .i) (paired (c .args .rows .now) (c .args .actions .now)) (let e = length-paired (c .args .rows .now) (c .args .actions .now) (c .pre .sizes) in omega arith))
+    ∙ ap (λ l. length (row-matches (stored (g .M·Machine .model (c .args .m .now))) l)) (take-all (c .loop-i .i) (paired (c .args .rows .now) (c .args .actions .now)) (let e = length-paired (c .args .rows .now) (c .args .actions .now) (c .pre .sizes) in omega arith));
+  few = omega arith;
+}

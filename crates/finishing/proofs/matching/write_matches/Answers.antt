@@ -20,7 +20,7 @@ write-set-n-requires g c κs =
     let m = g .M·Machine .model (c .args .m .now) in
     let rs = c .args .rows .now in
     let p = c .index-actions-i .result in
-    let set : c .marks .result ≡ m .marks (m .back p) = c .marks .ensures ∙ ap (m .marks) (c .back-action .ensures) in
+    let set = c .marked .ensures in
     let room = row-room m rs (c .args .actions .now) (c .pre .sizes) (c .loop-i .i) (omega arith) p (c .index-actions-i .is) (c .args .matches .now) (c .loop-i .matches) (c .args .at) (c .loop-i .n) (c .loop-i .inv .0) (c .loop-i .inv .1) (c .pre .room) in
     let one = ap (λ l. length (matches-at (at rs (c .loop-i .i) .place) 0 l)) set in
     omega (arith, room, one, c .loop-i .kept .matches)
@@ -31,7 +31,7 @@ loop-i-again g c =
     let rs = c .args .rows .now in
     let p = c .index-actions-i .result in
     let i = c .loop-i .i in
-    let set : c .marks .result ≡ m .marks (m .back p) = c .marks .ensures ∙ ap (m .marks) (c .back-action .ensures) in
+    let set = c .marked .ensures in
     (c .write-set-n .ensures .written ∙ ap (λ l. splice (c .loop-i .n) (matches-at (at rs i .place) 0 l) (c .loop-i .matches)) set
       ∙ row-written m rs (c .args .actions .now) (c .pre .sizes) i (omega arith) p (c .index-actions-i .is) (c .args .matches .now) (c .loop-i .matches) (c .args .at) (c .loop-i .n) (c .loop-i .inv .0) (c .loop-i .inv .1) (c .pre .room),
     c .write-set-n .ensures .end ∙ ap (λ l. c .loop-i .n + length (matches-at (at rs i .place) 0 l)) set

@@ -19,8 +19,8 @@ loop-j-again c =
     let ps = c .args .positions .now in
     let j = c .loop-j .j in
     elim (c .if-deep .came) [
-      then-deep w ↦ w .staying-is ∙ ap (λ m. bitOr m ((1 * 2 ^ j) % 2 ^ 32)) (c .loop-j .inv) ∙ mask-more 32 deepAt ps End j (omega arith) (omega arith) (sym (w .if-deep .ensures tt))
-    | else-deep w ↦ w .staying-is ∙ c .loop-j .inv ∙ mask-skip deepAt ps End j (omega arith) (sym (w .if-deep .ensures tt))
+      | then-deep w ↦ w .staying-is ∙ ap (λ m. bitOr m ((1 * 2 ^ j) % 2 ^ 32)) (c .loop-j .inv) ∙ mask-more 32 deepAt ps End j (omega arith) (omega arith) (sym (w .if-deep .ensures tt))
+      | else-deep w ↦ w .staying-is ∙ c .loop-j .inv ∙ mask-skip deepAt ps End j (omega arith) (sym (w .if-deep .ensures tt))
     ]
 
 pub returns : need.returns

@@ -21,8 +21,8 @@ loop-j-again c =
     let f = λ (p : Position). fitsAt p (c .args .column) in
     let j = c .loop-j .j in
     elim (c .if-fits .came) [
-      then-fits w ↦ w .fitting-is ∙ ap (λ m. bitOr m ((1 * 2 ^ j) % 2 ^ 32)) (c .loop-j .inv) ∙ mask-more 32 f ps End j (omega arith) (omega arith) (sym (w .if-fits .ensures tt))
-    | else-fits w ↦ w .fitting-is ∙ c .loop-j .inv ∙ mask-skip f ps End j (omega arith) (sym (w .if-fits .ensures tt))
+      | then-fits w ↦ w .fitting-is ∙ ap (λ m. bitOr m ((1 * 2 ^ j) % 2 ^ 32)) (c .loop-j .inv) ∙ mask-more 32 f ps End j (omega arith) (omega arith) (sym (w .if-fits .ensures tt))
+      | else-fits w ↦ w .fitting-is ∙ c .loop-j .inv ∙ mask-skip f ps End j (omega arith) (sym (w .if-fits .ensures tt))
     ]
 
 pub returns : need.returns

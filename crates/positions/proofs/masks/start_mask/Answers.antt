@@ -24,12 +24,13 @@ loop-j-again c =
     let n = length-starts true ps in
     let more = starts-more (c .loop-j .first) ps xs j (omega arith) n (c .loop-j .inv .1) in
     let bits = bits-more 32 xs j (c .loop-j .first) (omega arith) (omega arith) (more .0) in
-    let old = c .loop-j .inv .0 in
-    (elim (c .if-first .came) [
-       then-first w ↦ w .starts-is ∙ ap (λ m. bitOr m ((1 * 2 ^ j) % 2 ^ 32)) old ∙ sym (ap (λ t. cond t (bitOr (mask (take j xs)) ((1 * 2 ^ j) % 2 ^ 32)) (mask (take j xs))) (w .if-first .taken)) ∙ bits
-     | else-first w ↦ w .starts-is ∙ old ∙ sym (ap (λ t. cond t (bitOr (mask (take j xs)) ((1 * 2 ^ j) % 2 ^ 32)) (mask (take j xs))) (w .if-first .left)) ∙ bits
-     ],
-     ap (λ b. startBits b (drop (j + 1) ps)) (c .is-end-first .ensures) ∙ more .1)
+    let old = c .loop-j .inv .0 in (
+      elim (c .if-first .came) [
+        | then-first w ↦ w .starts-is ∙ ap (λ m. bitOr m ((1 * 2 ^ j) % 2 ^ 32)) old ∙ sym (ap (λ t. cond t (bitOr (mask (take j xs)) ((1 * 2 ^ j) % 2 ^ 32)) (mask (take j xs))) (w .if-first .taken)) ∙ bits
+        | else-first w ↦ w .starts-is ∙ old ∙ sym (ap (λ t. cond t (bitOr (mask (take j xs)) ((1 * 2 ^ j) % 2 ^ 32)) (mask (take j xs))) (w .if-first .left)) ∙ bits
+      ],
+      ap (λ b. startBits b (drop (j + 1) ps)) (c .is-end-first .ensures) ∙ more .1,
+    )
 
 pub returns : need.returns
 returns c =

@@ -14,12 +14,15 @@ use Rattle.positions.proofs.moves.Moves.of.Needs as need
 pub ghost-result : need.ghost-result
 ghost-result c =
     let q = c .args .queries .now in
-    let ps = c .positions .result .now in
-    (ap length (c .fit-masks .ensures) ∙ length-tab (fitMask ps) 16,
-     ((λ k h. subst (λ x. x < 2 ^ 31)
-        (sym (ap (λ xs. getD xs k 0) (c .fit-masks .ensures) ∙ getD-tab (fitMask ps) 16 k 0 h ∙ ap (λ zs. fitMask zs k) (c .positions .ensures .list)))
-        (low-fits (listedNames q) (queriesOf q) 31 (queries-few q) k)),
-      (omega arith, tt)))
+    let ps = c .positions .result .now in (
+      ap length (c .fit-masks .ensures) ∙ length-tab (fitMask ps) 16,
+      (
+        (λ k h. subst (λ x. x < 2 ^ 31)
+            (sym (ap (λ xs. getD xs k 0) (c .fit-masks .ensures) ∙ getD-tab (fitMask ps) 16 k 0 h ∙ ap (λ zs. fitMask zs k) (c .positions .ensures .list)))
+            (low-fits (listedNames q) (queriesOf q) 31 (queries-few q) k)),
+        (omega arith, tt),
+      ),
+    )
 
 pub returns : need.returns
 returns c = record { fits = c .fit-masks .ensures ∙ ap fitMasks (c .positions .ensures .list); stays = search needs }

@@ -1,7 +1,6 @@
 use mathlib.Core.Path.{_≡_}
 use Prim.Native.Nat.{ℕ, _^_, _<_}
 use lib.ListN.{length, getD}
-
 use Rattle.relation.proofs.related.RelationMachineMachine.stay.Given as given
 
 abbrev pub Inv-loop-i : given.InvT-loop-i

@@ -16,13 +16,13 @@ use Rattle.relation.proofs.related.RelationMachineMachine.the-impl.Needs as ne
 
 -- a set, through the action of a name
 by-name : (m : RelationMachine) (a : RelationAction) (n : List ℕ) (k : ℕ) → k < 32
-  → getD (thenRows a (naming m n) .rows) k 0 ≡ movesOf m (getD (a .rows) k 0) (columnOf m n)
+    → getD (thenRows a (naming m n) .rows) k 0 ≡ movesOf m (getD (a .rows) k 0) (columnOf m n)
 unfolding movedOn
 by-name m a n k h =
     getD-tab _ 32 k 0 h ∙ picked-moved 32 (getD (m .moves .fits) (columnOf m n) 0) (m .moves .stays) (getD (a .rows) k 0) (a .low k h)
 
 by-path : (m : RelationMachine) (ns : List (List ℕ)) (a : RelationAction) (k : ℕ) → k < 32
-  → getD (thenAll thenRows (naming m) a ns .rows) k 0 ≡ runBy (movesOf m) (getD (a .rows) k 0) (map (columnOf m) ns)
+    → getD (thenAll thenRows (naming m) a ns .rows) k 0 ≡ runBy (movesOf m) (getD (a .rows) k 0) (map (columnOf m) ns)
 by-path m [] a k h = refl
 by-path m (n ∷ ns) a k h = by-path m ns (thenRows a (naming m n)) k h ∙ ap (λ s. runBy (movesOf m) s (map (columnOf m) ns)) (by-name m a n k h)
 
@@ -32,8 +32,8 @@ lawful-law m = record {
   left = λ a. same-action _ _ (sym (is-tab _ (a .rows) 32 0 (a .size) (λ k h. sym (ap (λ x. picked x (a .rows)) (getD-tab _ 32 k 0 h) ∙ picked-bit k (a .rows)))));
   right = λ a. same-action _ _ (sym (is-tab _ (a .rows) 32 0 (a .size) (λ k h. sym (picked-powers 32 (getD (a .rows) k 0) (a .low k h)))));
   marks-path = λ n ns. tab-same _ _ 8 false (λ q h.
-    let f = m .lines .begin q h in
-    ap (λ s. ltb q (m .lines .count) && has s (getD (m .lines .last) q 0))
+      let f = m .lines .begin q h in
+      ap (λ s. ltb q (m .lines .count) && has s (getD (m .lines .last) q 0))
       (by-path m ns (naming m n) (getD (m .lines .first) q 0) f ∙ ap (λ s. runBy (movesOf m) s (map (columnOf m) ns)) (getD-tab _ 32 (getD (m .lines .first) q 0) 0 f)));
   round = λ a. refl;
 }

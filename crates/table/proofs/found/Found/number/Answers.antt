@@ -7,9 +7,9 @@ use Rattle.std.proofs.shelf.Lists.{length-take-le}
 use Rattle.table.proofs.Places.{added-write, added-length, added-old}
 use Rattle.table.proofs.found.Found.number.Needs as need
 
-pub returns-then-self-eq32 : need.returns-then-self-eq32
+pub returns-then-self-eq-MOST-STATES : need.returns-then-self-eq-MOST-STATES
 unfolding seen
-returns-then-self-eq32 c =
+returns-then-self-eq-MOST-STATES c =
     let f = c .args .self .now in
     let at : c .place-of-at .result ≡ place (c .args .set) (seen f) = search needs in
     let n = added-length (f .sets) (f .count) (c .args .set) (omega arith) (omega arith) in

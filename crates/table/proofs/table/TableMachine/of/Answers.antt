@@ -39,5 +39,5 @@ returns c =
       arising = arising-of names qs (c .of-moves .result) (c .start-mask-start .result) (c .name-count .result + 1) (c .of-moves .ensures .fits) stays start cols s (c .in-Continue-states .ensures tt);
       lines = c .of-lines .ensures;
       rule = table-rule (record { names = c .names .result; states = s; lines = c .of-lines .result }) qs (subst (λ ns. All (Listed ns) qs) e (c .names .ensures .all)) (c .of-lines .ensures)
-        (subst (λ ns. Made (leads (positions ns qs)) (length ns + 1) (mask (begins qs)) s) e made);
+          (subst (λ ns. Made (leads (positions ns qs)) (length ns + 1) (mask (begins qs)) s) e made);
     }
