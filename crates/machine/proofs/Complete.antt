@@ -13,9 +13,9 @@ use Rattle.machine.specs.declared.reader.State.{State}
 use Rattle.machine.specs.declared.reader.State.the-variants.{Line, Slash, Deep, Inside, Star}
 use Rattle.machine.specs.declared.reader.Turn.{Turn}
 use Rattle.machine.specs.declared.reader.Turn.the-variants.{On}
-use Rattle.machine.specs.Queries.{Test, any, named, QueryStep, Query}
+use Rattle.machine.specs.Queries.{Test, any, named, QueryStep, step, Query}
 use Rattle.machine.specs.Text.{GoodTest, GoodSteps, GoodQuery, axisText, testText, queryText, Parses}
-use Rattle.machine.specs.Reading.{turn, stepsAfter, parts, sinceAfter, lined, Draft, draft, step, next, readsAs}
+use Rattle.machine.specs.Reading.{turn, stepsAfter, parts, sinceAfter, lined, Draft, draft, next, readsAs}
 use Rattle.machine.proofs.Texts.{folded-append, closedText, closed-is}
 
 pub name-goes-on : (b : ℕ) → nameByte b ≡ true → parts b ≡ false

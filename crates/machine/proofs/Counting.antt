@@ -12,8 +12,8 @@ use Rattle.machine.specs.declared.reader.State.{State}
 use Rattle.machine.specs.declared.reader.State.the-variants.{Line}
 use Rattle.machine.specs.declared.reader.Turn.{Turn}
 use Rattle.machine.specs.declared.reader.Turn.the-variants.{On, Starred, Named}
-use Rattle.machine.specs.Queries.{any, named, Query, size}
-use Rattle.machine.specs.Reading.{turn, closes, stepsAfter, Draft, draft, step, next, start, readsAs}
+use Rattle.machine.specs.Queries.{any, named, step, Query, size}
+use Rattle.machine.specs.Reading.{turn, closes, stepsAfter, Draft, draft, next, start, readsAs}
 use Rattle.machine.specs.Sketches.{counted, lineCount, sizeIn}
 
 size-push : (qs : List Query) (q : Query) → size (qs ++ q ∷ []) ≡ size qs + length q + 1
@@ -88,7 +88,7 @@ pub lineCount-le : (s : State) → lineCount s ≤ 1
 lineCount-le s = one-le (closes s)
 
 -- the draft of the text's first i bytes
-pub drafted : List ℕ → ℕ → Draft
+unfoldable pub drafted : List ℕ → ℕ → Draft
 drafted text i = folded next start (take i text)
 
 pub drafted-none : (text : List ℕ) → drafted text 0 ≡ start

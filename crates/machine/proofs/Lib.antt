@@ -6,3 +6,9 @@ pub mod Texts
 pub mod Complete
 pub mod Sound
 pub mod Counting
+pub mod Growing
+pub mod Drawing
+pub mod Following
+pub mod Decoding
+pub mod Kept
+pub mod Answering

@@ -18,10 +18,10 @@ use Rattle.machine.specs.declared.reader.State.{State}
 use Rattle.machine.specs.declared.reader.State.the-variants.{Line, Slash, Deep, Inside, Star, Bad}
 use Rattle.machine.specs.declared.reader.Turn.{Turn}
 use Rattle.machine.specs.declared.reader.Turn.the-variants.{On}
-use Rattle.machine.specs.Queries.{Test, any, named, QueryStep, Query}
+use Rattle.machine.specs.Queries.{Test, any, named, QueryStep, step, Query}
 use Rattle.machine.specs.Limits.{mostLines}
 use Rattle.machine.specs.Text.{GoodName, GoodTest, GoodSteps, GoodQuery, axisText, testText, queryText, linesText, Parses}
-use Rattle.machine.specs.Reading.{turn, closes, stepsAfter, sinceAfter, lined, Draft, draft, step, next, readsAs}
+use Rattle.machine.specs.Reading.{turn, closes, stepsAfter, sinceAfter, lined, Draft, draft, next, readsAs}
 use Rattle.machine.proofs.Texts.{folded-append, closedText, closed-is, closed-push, query-push}
 use Rattle.machine.proofs.Complete.{inside, slash-letter, deep-letter}
 

@@ -8,3 +8,4 @@ pub mod Reading
 pub mod Views
 pub mod Refusals
 pub mod Sketches
+pub mod Asked

@@ -20,6 +20,9 @@ pub record QueryStep : Type 0 where
   pub deep : Bool
   pub test : Test
 
+abbrev pub step : Bool → Test → QueryStep
+step d t = record { deep = d; test = t }
+
 abbrev pub Query : Type 0
 Query = List QueryStep
 

@@ -9,7 +9,7 @@ use Rattle.machine.specs.declared.reader.State.{State}
 use Rattle.machine.specs.declared.reader.State.the-variants.{Line, Slash, Deep, Inside, Star, Bad}
 use Rattle.machine.specs.declared.reader.Turn.{Turn}
 use Rattle.machine.specs.declared.reader.Turn.the-variants.{On, Starred, Named}
-use Rattle.machine.specs.Queries.{Test, any, named, QueryStep, Query}
+use Rattle.machine.specs.Queries.{any, named, step, Query}
 
 -- what a byte does in each state
 abbrev pub turn : State → ℕ → State × Turn
@@ -38,9 +38,6 @@ pub record Draft : Type 0 where
 
 abbrev pub draft : State → List ℕ → Query → List Query → Draft
 draft s n q qs = record { state = s; since = n; steps = q; lines = qs }
-
-abbrev pub step : Bool → Test → QueryStep
-step d t = record { deep = d; test = t }
 
 abbrev pub stepsAfter : Turn → List ℕ → Query → Query
 stepsAfter On n q = q

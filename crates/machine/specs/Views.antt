@@ -9,7 +9,7 @@ use Rattle.machine.specs.declared.names.Names.{Names}
 use Rattle.machine.specs.declared.plan.Plan.{Plan}
 use Rattle.machine.specs.declared.position.Position.{Position}
 use Rattle.machine.specs.declared.position.Position.the-variants.{End, Any, Name}
-use Rattle.machine.specs.Queries.{any, named, QueryStep, Query, column}
+use Rattle.machine.specs.Queries.{any, named, QueryStep, step, Query, column}
 
 abbrev pub bytesOf : the-name.Name → List ℕ
 bytesOf n = take (n .len) (n .bytes)
@@ -23,9 +23,6 @@ placesOf p = take (p .count) (p .list)
 abbrev pub lastsOf : Plan → List ℕ
 lastsOf p = take (p .lines) (p .lasts)
 
-abbrev pub step : Bool → List (List ℕ) → ℕ → QueryStep
-step d names k = record { deep = d; test = named (getD names (k - 1) []) }
-
 -- a step before the first query
 abbrev pub before : QueryStep → List Query → List Query
 before s [] = []
@@ -35,8 +32,8 @@ before s (q ∷ qs) = (s ∷ q) ∷ qs
 abbrev pub decoded : List (List ℕ) → List Position → List Query
 decoded names [] = []
 decoded names (End ∷ ps) = [] ∷ decoded names ps
-decoded names (Any d ∷ ps) = before (record { deep = d; test = any }) (decoded names ps)
-decoded names (Name d k ∷ ps) = before (step d names k) (decoded names ps)
+decoded names (Any d ∷ ps) = before (step d any) (decoded names ps)
+decoded names (Name d k ∷ ps) = before (step d (named (getD names (k - 1) []))) (decoded names ps)
 
 -- the last position, if any, is an end
 abbrev pub isEnd : Position → Bool

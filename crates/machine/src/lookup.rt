@@ -6,7 +6,7 @@ ghost use lib.ListN.{length};
 ghost use Rattle.std.specs.Options.{Cases};
 ghost use Rattle.std.specs.shelf.Text.{sameBytes};
 ghost use Rattle.machine.specs.Queries.{column, noted};
-ghost use Rattle.machine.specs.Limits.{NamesFit};
+ghost use Rattle.machine.specs.Limits.{mostNames, longestName, NamesFit};
 ghost use Rattle.machine.specs.Views.{bytesOf, namesOf};
 use crate::name::LONGEST_NAME;
 use crate::name::Name;
@@ -21,7 +21,7 @@ impl Name {
     }
 
     fn new(name: &[u8]) -> Name
-        requires { ⌜ length (now name) ≤ 24 ⌝ }
+        requires { ⌜ length (now name) ≤ longestName ⌝ }
         ensures { λ r. ⌜ bytesOf r ≡ now (name .entry) ⌝ }
     {
         let mut bytes = [0; LONGEST_NAME];
@@ -59,8 +59,8 @@ impl Names {
     }
 
     /// The name's column, once it stands among the names; nothing where it cannot.
-    pub fn note(&mut self, name: &[u8]) -> Option<usize>
-        ensures { λ r. ⌜ Cases r (NamesFit (noted (namesOf (now (self .entry))) (now (name .entry))) → ⊥) (λ k. (namesOf (now (self .exit)) ≡ noted (namesOf (now (self .entry))) (now (name .entry))) × (k ≡ column (namesOf (now (self .exit))) (now (name .entry))) × (k ≤ 15)) ⌝ }
+    pub(crate) fn note(&mut self, name: &[u8]) -> Option<usize>
+        ensures { λ r. ⌜ Cases r ((now (self .exit) ≡ now (self .entry)) × (NamesFit (noted (namesOf (now (self .entry))) (now (name .entry))) → ⊥)) (λ k. (namesOf (now (self .exit)) ≡ noted (namesOf (now (self .entry))) (now (name .entry))) × (k ≡ column (namesOf (now (self .exit))) (now (name .entry))) × (k ≤ mostNames)) ⌝ }
     {
         if name.len() > LONGEST_NAME {
             return None;
@@ -78,8 +78,8 @@ impl Names {
 
     /// Puts a name after the others.
     fn add(&mut self, name: &[u8])
-        requires room { ⌜ now self .count < 15 ⌝ }
-        requires short { ⌜ length (now name) ≤ 24 ⌝ }
+        requires room { ⌜ now self .count < mostNames ⌝ }
+        requires short { ⌜ length (now name) ≤ longestName ⌝ }
         ensures names { λ _. ⌜ namesOf (now (self .exit)) ≡ namesOf (now (self .entry)) ++ now (name .entry) ∷ [] ⌝ }
         ensures count { λ _. ⌜ now (self .exit) .count ≡ now (self .entry) .count + 1 ⌝ }
     {

@@ -2,8 +2,8 @@
 ghost use mathlib.Core.Path.{_≡_};
 ghost use Prim.Native.Nat.{_+_, _^_, _<_, _≤_};
 ghost use lib.ListN.{length};
-ghost use Rattle.machine.specs.declared.reader.State.the-variants.{Line};
-ghost use Rattle.machine.specs.Reading.{turn, readsAs};
+ghost use Rattle.machine.specs.Limits.{mostBytes};
+ghost use Rattle.machine.specs.Reading.{turn, closes, readsAs};
 ghost use Rattle.machine.specs.Sketches.{counted, lineCount, sizeIn};
 use crate::reader::Reader;
 use crate::reader::Turn;
@@ -36,7 +36,7 @@ impl Measure {
 
     /// The measure of a whole text; each line has an end, the last one too.
     pub fn of(text: &[u8]) -> Measure
-        requires { ⌜ length (now text) ≤ 512 ⌝ }
+        requires { ⌜ length (now text) ≤ mostBytes ⌝ }
         ensures state { λ r. ⌜ r .reader .state ≡ readsAs (now (text .entry)) .state ⌝ }
         ensures lines { λ r. ⌜ r .lines ≡ length (readsAs (now (text .entry)) .lines) ⌝ }
         ensures positions { λ r. ⌜ r .positions ≡ sizeIn (readsAs (now (text .entry))) ⌝ }
@@ -47,5 +47,12 @@ impl Measure {
         }
         measure.take(b'\n');
         measure
+    }
+
+    /// Whether the text ends as a line does.
+    pub fn is_whole(&self) -> bool
+        ensures { λ r. ⌜ r ≡ closes (now (self .entry) .reader .state) ⌝ }
+    {
+        self.reader.at_line()
     }
 }

@@ -1,6 +1,7 @@
 ghost use mathlib.Core.Path.{_≡_};
 ghost use Prim.Native.Nat.{_≤_};
 ghost use lib.ListN.{length};
+ghost use Rattle.machine.specs.Limits.{mostNames};
 use crate::name::Name;
 
 /// How many different names queries may use.
@@ -9,8 +10,8 @@ pub const MOST_NAMES: usize = 15;
 /// The names that queries use, in the order of first use.
 #[derive(Clone, Copy)]
 pub struct Names {
-    pub list: [Name; MOST_NAMES],
-    pub count: usize,
-    ghost size: { length list ≡ 15 },
-    ghost within: { count ≤ 15 },
+    pub(crate) list: [Name; MOST_NAMES],
+    pub(crate) count: usize,
+    ghost size: { length list ≡ mostNames },
+    ghost within: { count ≤ mostNames },
 }

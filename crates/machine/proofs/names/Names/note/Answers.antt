@@ -1,4 +1,4 @@
-use mathlib.Core.Path.{_≡_, sym, ap, _∙_}
+use mathlib.Core.Path.{_≡_, refl, sym, ap, _∙_}
 use Prim.Native.Nat.{_<_}
 use native.Mathlib.Omega.{arith}
 use Rattle.machine.specs.Queries.{column}
@@ -8,7 +8,7 @@ use Rattle.machine.proofs.Viewed.{length-names}
 use Rattle.machine.proofs.names.Names.note.Needs as need
 
 pub returns-then-name-gt-LONGEST-NAME : need.returns-then-name-gt-LONGEST-NAME
-returns-then-name-gt-LONGEST-NAME c = long-name (namesOf (c .args .self .now)) (c .args .name .now) (omega arith)
+returns-then-name-gt-LONGEST-NAME c = (refl, long-name (namesOf (c .args .self .now)) (c .args .name .now) (omega arith))
 
 pub returns-then-column-gt0 : need.returns-then-column-gt0
 returns-then-column-gt0 c =

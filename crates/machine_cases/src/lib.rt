@@ -1,0 +1,3 @@
+//! The two machines on texts and paths, held to each other and to what the path rule says.
+#[cfg(test)]
+mod tests;

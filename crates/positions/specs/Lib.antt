@@ -1,0 +1,3 @@
+pub mod Tabs
+pub mod Sets
+pub mod Verdicts
