@@ -14,6 +14,3 @@ pub use running::run;
 pub use steps::Call;
 pub use steps::Reply;
 pub use steps::Step;
-
-#[cfg(test)]
-mod tests;
