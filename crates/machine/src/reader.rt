@@ -40,12 +40,12 @@ impl Reader {
         match (self.state, b) {
             (State::Line | State::Star, b'/') => self.state = State::Slash,
             (State::Slash, b'/') => self.state = State::Deep,
-            (State::Slash, b'a'..=b'z' | b'A'..=b'Z' | b'_' | b':') => self.state = State::Inside(
-                false,
-            ),
-            (State::Deep, b'a'..=b'z' | b'A'..=b'Z' | b'_' | b':') => self.state = State::Inside(
-                true,
-            ),
+            (State::Slash, b'a'..=b'z' | b'A'..=b'Z' | b'_' | b':') => {
+                self.state = State::Inside(false);
+            }
+            (State::Deep, b'a'..=b'z' | b'A'..=b'Z' | b'_' | b':') => {
+                self.state = State::Inside(true);
+            }
             (State::Slash, b'*') => {
                 self.state = State::Star;
                 return Turn::Starred(false);
