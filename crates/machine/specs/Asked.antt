@@ -6,7 +6,7 @@ use lib.ListN.{length}
 use Rattle.machine.specs.declared.position.Position.{Position}
 use Rattle.machine.specs.declared.queries.Queries.{Queries}
 use Rattle.machine.specs.declared.refusal.Refusal.{Refusal}
-use Rattle.machine.specs.declared.refusal.Refusal.the-variants.{TextTooLong, NotQueries, TooManyPositions, NamesOverLimit, TooManySets}
+use Rattle.machine.specs.declared.refusal.Refusal.the-variants.{TextTooLong, NotQueries, TooManyPositions, NamesOverLimit, TooManySets, FileTooLong, OtherLength, ListsTooShort, OutOfRange, NoSuchPiece, PiecesApart, NotWhole, RowsBroken, TooManyPieces, NoRoomForRows, NoRoomForMatches}
 use Rattle.machine.specs.Limits.{mostBytes, mostPositions, NamesFit}
 use Rattle.machine.specs.Queries.{Query, size, namesUsed}
 use Rattle.machine.specs.Text.{Parses}
@@ -31,6 +31,17 @@ Refused text NotQueries = (length text ≤ mostBytes) × ((qs : List Query) → 
 Refused text TooManyPositions = (length text ≤ mostBytes) × ((qs : List Query) × Parses text qs × (mostPositions < size qs))
 Refused text NamesOverLimit = (length text ≤ mostBytes) × ((qs : List Query) × Parses text qs × (size qs ≤ mostPositions) × (NamesFit (namesUsed qs) → ⊥))
 Refused text TooManySets = ⊥
+Refused text FileTooLong = ⊥
+Refused text OtherLength = ⊥
+Refused text ListsTooShort = ⊥
+Refused text OutOfRange = ⊥
+Refused text NoSuchPiece = ⊥
+Refused text PiecesApart = ⊥
+Refused text NotWhole = ⊥
+Refused text RowsBroken = ⊥
+Refused text TooManyPieces = ⊥
+Refused text NoRoomForRows = ⊥
+Refused text NoRoomForMatches = ⊥
 
 -- every question is answered yes, and these are the text's queries
 pub record Accepted (text : List ℕ) (q : Queries) : Type 0 where

@@ -5,7 +5,7 @@ use Prim.Native.Nat.{ℕ, _+_}
 use lib.ListN.{length}
 use Rattle.machine.specs.declared.queries.Queries.{Queries}
 use Rattle.machine.specs.declared.refusal.Refusal.{Refusal}
-use Rattle.machine.specs.declared.refusal.Refusal.the-variants.{TextTooLong, NotQueries, TooManyPositions, NamesOverLimit, TooManySets}
+use Rattle.machine.specs.declared.refusal.Refusal.the-variants.{TextTooLong, NotQueries, TooManyPositions, NamesOverLimit, TooManySets, FileTooLong, OtherLength, ListsTooShort, OutOfRange, NoSuchPiece, PiecesApart, NotWhole, RowsBroken, TooManyPieces, NoRoomForRows, NoRoomForMatches}
 use Rattle.machine.specs.Asked.{listedNames, queriesOf, Refused}
 use Rattle.machine.specs.Masks.{mask}
 use Rattle.machine.specs.Queries.{Query, positions, begins, namesUsed}
@@ -51,3 +51,14 @@ TableRefused text NotQueries = Refused text NotQueries
 TableRefused text TooManyPositions = Refused text TooManyPositions
 TableRefused text NamesOverLimit = Refused text NamesOverLimit
 TableRefused text TooManySets = SetsRefused text
+TableRefused text FileTooLong = ⊥
+TableRefused text OtherLength = ⊥
+TableRefused text ListsTooShort = ⊥
+TableRefused text OutOfRange = ⊥
+TableRefused text NoSuchPiece = ⊥
+TableRefused text PiecesApart = ⊥
+TableRefused text NotWhole = ⊥
+TableRefused text RowsBroken = ⊥
+TableRefused text TooManyPieces = ⊥
+TableRefused text NoRoomForRows = ⊥
+TableRefused text NoRoomForMatches = ⊥

@@ -61,3 +61,15 @@ first-mark file from at to low high none here =
       ∙ ap (λ k. firstOr to (marks (between at to file) k)) n
       ∙ ap (λ l. firstOr to (marks l at)) rest
       ∙ ap (λ b. firstOr to (marks (b ∷ between (at + 1) to file) at)) here)
+
+-- a part's first mark lies in it, or where it ends
+pub first-low : (xs : List ℕ) (at low to : ℕ) → low ≤ at → low ≤ to → low ≤ firstOr to (marks xs at)
+first-low [] at low to h k = k
+first-low (x ∷ xs) at low to h k =
+    elim (mark x) as (λ t. low ≤ firstOr to (cond t (at ∷ marks xs (at + 1)) (marks xs (at + 1)))) [ true ↦ h | false ↦ first-low xs (at + 1) low to (omega arith) k ]
+
+pub first-high : (xs : List ℕ) (at to : ℕ) → at + length xs ≤ to → firstOr to (marks xs at) ≤ to
+first-high [] at to h = omega arith
+first-high (x ∷ xs) at to h =
+    let k : (at + 1) + length xs ≤ to = omega arith in
+    elim (mark x) as (λ t. firstOr to (cond t (at ∷ marks xs (at + 1)) (marks xs (at + 1))) ≤ to) [ true ↦ omega arith | false ↦ first-high xs (at + 1) to k ]

@@ -10,3 +10,6 @@ pub use tag::Cause;
 pub use tag::Tag;
 pub use tag::TagFault;
 pub use tag::TagKind;
+
+#[cfg(test)]
+mod tests;

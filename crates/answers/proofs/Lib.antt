@@ -1,0 +1,13 @@
+pub mod Names
+pub mod Joins
+pub mod Cuts
+pub mod Wholes
+pub mod Stored
+pub mod Past
+pub mod Seen
+pub mod Tagged
+pub mod After
+pub mod Walk
+pub mod Rules
+pub mod Listings
+pub mod Paths

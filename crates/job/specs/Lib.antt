@@ -1,0 +1,4 @@
+pub mod Pieces
+pub mod Contents
+pub mod State
+pub mod Runs
