@@ -14,3 +14,6 @@ pub use running::run;
 pub use steps::Call;
 pub use steps::Reply;
 pub use steps::Step;
+
+#[cfg(test)]
+mod tests;
