@@ -1,12 +1,12 @@
 //! Reads cases, each a query text and a document, and lists what every document answers. A listing is printed if all ways of reading the document agree on it.
 mod given;
 
-use cuttings::agreed;
 use crate::given::Case;
 use crate::given::next_case;
-use cuttings::Told;
-use cuttings::told::ToldPartialEq;
 use answers::Fault;
+use cuttings::Told;
+use cuttings::agreed;
+use cuttings::told::ToldPartialEq;
 use job::Answer;
 use machine::Refusal;
 use relation::RelationMachine;
@@ -98,5 +98,9 @@ fn main(rt: LibcRuntime) -> io::Result<()> {
         list_case(&rt, &case)?;
         rest = after;
     }
-    if rest.is_empty() { Ok(()) } else { println!(rt, "unread") }
+    if rest.is_empty() {
+        Ok(())
+    } else {
+        println!(rt, "unread")
+    }
 }

@@ -46,15 +46,33 @@ fn filled<T: Copy>(heap: Global, x: T, n: usize) -> Result<Vec<T>, AllocError> {
 }
 
 /// What a file tells after these steps, which read each of its marks at most once and join at most `joins` times. The lists hold other rows before.
-pub fn tell<M: Machine>(heap: Global, m: &M, file: &[u8], steps: &mut [Step], joins: usize) -> Result<Option<Told>, AllocError> {
+pub fn tell<M: Machine>(
+    heap: Global,
+    m: &M,
+    file: &[u8],
+    steps: &mut [Step],
+    joins: usize,
+) -> Result<Option<Told>, AllocError> {
     let (_, _, marks) = scan(file, 0, file.len());
     let room = joins.saturating_add(1).saturating_mul(marks);
-    let row = Row { kind: RowKind::Open, place: 1, name_len: 1 };
+    let row = Row {
+        kind: RowKind::Open,
+        place: 1,
+        name_len: 1,
+    };
     let mut rows = filled(heap, row, room)?;
     let mut actions = filled(heap, m.plain(&m.stay()), room)?;
     let mut matches = filled(heap, Match { place: 1, query: 1 }, marks.saturating_mul(8))?;
     let mut job = Job::new();
-    match run(m, &mut job, file, rows.as_mut_slice(), actions.as_mut_slice(), matches.as_mut_slice(), steps) {
+    match run(
+        m,
+        &mut job,
+        file,
+        rows.as_mut_slice(),
+        actions.as_mut_slice(),
+        matches.as_mut_slice(),
+        steps,
+    ) {
         Ok(()) => last_told(heap, steps, matches.as_slice()),
         Err(_) => Ok(None),
     }

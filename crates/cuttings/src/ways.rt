@@ -11,7 +11,10 @@ use std::alloc::AllocError;
 use std::alloc::Global;
 
 fn step(call: Call) -> Step {
-    Step { call, reply: Reply::Unanswered }
+    Step {
+        call,
+        reply: Reply::Unanswered,
+    }
 }
 
 /// Reads the pieces that end at these places, from the first on, and joins each to what stands before it.
@@ -52,19 +55,33 @@ pub fn from_right(heap: Global, ends: &[usize]) -> Result<Vec<Step>, AllocError>
 }
 
 /// Whether the file, cut at these places, tells the same in both orders.
-pub fn same<M: Machine>(heap: Global, m: &M, file: &[u8], ends: &[usize], told: &Told) -> Result<bool, AllocError> {
+pub fn same<M: Machine>(
+    heap: Global,
+    m: &M,
+    file: &[u8],
+    ends: &[usize],
+    told: &Told,
+) -> Result<bool, AllocError> {
     let mut left = from_left(heap, ends)?;
     let mut right = from_right(heap, ends)?;
-    match (tell(heap, m, file, left.as_mut_slice(), ends.len())?, tell(heap, m, file, right.as_mut_slice(), ends.len())?) {
+    match (
+        tell(heap, m, file, left.as_mut_slice(), ends.len())?,
+        tell(heap, m, file, right.as_mut_slice(), ends.len())?,
+    ) {
         (Some(a), Some(b)) => Ok(a == *told && b == *told),
         _ => Ok(false),
     }
 }
 
 /// Whether it does cut in two, at every place of a short file and at some of a long one.
-fn same_in_two<M: Machine>(heap: Global, m: &M, file: &[u8], told: &Told) -> Result<bool, AllocError> {
+fn same_in_two<M: Machine>(
+    heap: Global,
+    m: &M,
+    file: &[u8],
+    told: &Told,
+) -> Result<bool, AllocError> {
     let length = file.len();
-    let step = length / 200 + 1;
+    let step = length / 128 + 1;
     for k in 0..length / step + 1 {
         if !same(heap, m, file, &[k.saturating_mul(step), length], told)? {
             return Ok(false);

@@ -29,7 +29,7 @@ pub odd-sum : (k n : ℕ) → differ (odd k) (odd n) ≡ odd (k + n)
 odd-sum k n = grind (arith, tells)
 
 pub along : (m : ParityMachine) (names all : ℕ) (ns : List (List ℕ))
-  → thenAll (parities m .then) (parities m .action) (parity names all) ns ≡ parity (names + length ns) (all + bytes ns)
+    → thenAll (parities m .then) (parities m .action) (parity names all) ns ≡ parity (names + length ns) (all + bytes ns)
 along m names all [] = same _ _ (ap odd (omega arith)) (ap odd (omega arith))
 along m names all (n ∷ ns) =
     ap (λ p. thenAll (parities m .then) (parities m .action) p ns) (same _ (parity (names + 1) (all + length n)) (odd-sum names 1) (odd-sum all (length n)))

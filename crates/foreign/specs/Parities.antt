@@ -31,10 +31,11 @@ verdict path = set (not (odd (length path))) (not (odd (bytes path)))
 
 abbrev pub parities : ParityMachine → Model Parity ℕ
 parities _ = record {
-    stay = parity 0 0;
-    action = λ n. parity 1 (length n);
-    then = λ a b. record { names = differ (a .names) (b .names); bytes = differ (a .bytes) (b .bytes) };
-    marks = λ a. set (not (a .names)) (not (a .bytes));
-    plain = λ a. cond (a .names) 1 0 + cond (a .bytes) 2 0;
-    back = λ p. parity p (p / 2);
-    verdict = verdict }
+  stay = parity 0 0;
+  action = λ n. parity 1 (length n);
+  then = λ a b. record { names = differ (a .names) (b .names); bytes = differ (a .bytes) (b .bytes) };
+  marks = λ a. set (not (a .names)) (not (a .bytes));
+  plain = λ a. cond (a .names) 1 0 + cond (a .bytes) 2 0;
+  back = λ p. parity p (p / 2);
+  verdict = verdict;
+}

@@ -6,20 +6,30 @@ use machine::Machine;
 
 pub impl Machine for ParityMachine as ParityMachineMachine {
     type Action = Parity;
+
     type Plain = u8;
 
     ghost model = { parities };
 
     fn stay(&self) -> Parity {
-        Parity { names: false, bytes: false }
+        Parity {
+            names: false,
+            bytes: false,
+        }
     }
 
     fn action_of(&self, name: &[u8]) -> Parity {
-        Parity { names: true, bytes: name.len() % 2 == 1 }
+        Parity {
+            names: true,
+            bytes: name.len() % 2 == 1,
+        }
     }
 
     fn then(&self, a: &Parity, b: &Parity) -> Parity {
-        Parity { names: a.names != b.names, bytes: a.bytes != b.bytes }
+        Parity {
+            names: a.names != b.names,
+            bytes: a.bytes != b.bytes,
+        }
     }
 
     fn marks(&self, a: &Parity) -> [bool; 8] {
@@ -36,6 +46,9 @@ pub impl Machine for ParityMachine as ParityMachineMachine {
     }
 
     fn back(&self, p: &u8) -> Parity {
-        Parity { names: *p % 2 == 1, bytes: *p / 2 % 2 == 1 }
+        Parity {
+            names: *p % 2 == 1,
+            bytes: *p / 2 % 2 == 1,
+        }
     }
 }

@@ -5,7 +5,6 @@ use crate::turns::Turn;
 use crate::turns::take_turns;
 use job::Call;
 use job::Job;
-use machine::Machine;
 use machine::Refusal;
 use machine::refusal::RefusalDebug;
 use machine::refusal::RefusalPartialEq;
@@ -70,8 +69,16 @@ fn questions_in_order() -> Result<(), Fail> {
     m.make(b"/day/stop\n//stop\n/day//tour/*")?;
     let mut job = Job::new();
     job.open(FILE.len())?;
-    let mut actions = [m.plain(&m.stay()); 64];
-    take_turns(&mut job, &m, FILE, &mut [ROW; 64], &mut actions, &mut [MATCH; 16], &CALLS)
+    let mut actions = [[0; 32]; 64];
+    take_turns(
+        &mut job,
+        &m,
+        FILE,
+        &mut [ROW; 64],
+        &mut actions,
+        &mut [MATCH; 16],
+        &CALLS,
+    )
 }
 
 /// Calls on a job that was never opened: its file is empty.
@@ -87,8 +94,16 @@ static UNOPENED: [Turn; 5] = [
 fn never_opened() -> Result<(), Fail> {
     let m = TableMachine::new();
     let mut job = Job::new();
-    let mut actions = [m.plain(&m.stay()); 4];
-    take_turns(&mut job, &m, FILE, &mut [ROW; 4], &mut actions, &mut [MATCH; 4], &UNOPENED)
+    let mut actions = [[0; 32]; 4];
+    take_turns(
+        &mut job,
+        &m,
+        FILE,
+        &mut [ROW; 4],
+        &mut actions,
+        &mut [MATCH; 4],
+        &UNOPENED,
+    )
 }
 
 /// A refused open leaves the job and its pieces, an accepted one begins anew.
@@ -118,8 +133,22 @@ static FULL: [Turn; 8] = [
     ([44, 0, 0, 0], Call::Read { from: 1, to: 0 }, Err(9)),
     ([44, 0, 0, 0], Call::Read { from: 0, to: 0 }, Err(14)),
     ([44, 0, 0, 0], Call::Read { from: 0, to: 44 }, Err(14)),
-    ([44, 0, 0, 0], Call::Join { left: 0, right: 128 }, Err(10)),
-    ([44, 0, 0, 0], Call::Join { left: 0, right: 127 }, Err(11)),
+    (
+        [44, 0, 0, 0],
+        Call::Join {
+            left: 0,
+            right: 128,
+        },
+        Err(10),
+    ),
+    (
+        [44, 0, 0, 0],
+        Call::Join {
+            left: 0,
+            right: 127,
+        },
+        Err(11),
+    ),
     ([44, 0, 0, 0], Call::Join { left: 0, right: 1 }, Err(14)),
     ([44, 0, 0, 0], Call::Finish { piece: 0 }, Err(12)),
 ];
@@ -129,11 +158,19 @@ fn pieces_run_out() -> Result<(), Fail> {
     let m = TableMachine::new();
     let mut job = Job::new();
     job.open(FILE.len())?;
-    let mut actions = [m.plain(&m.stay()); 4];
+    let mut actions = [[0; 32]; 4];
     for piece in 0..128 {
         let from = if piece == 127 { 44 } else { 0 };
         let turns = [([44, 0, 0, 0], Call::Read { from, to: from }, Ok(piece))];
         take_turns(&mut job, &m, FILE, &mut [], &mut [], &mut [], &turns)?;
     }
-    take_turns(&mut job, &m, FILE, &mut [ROW; 4], &mut actions, &mut [MATCH; 4], &FULL)
+    take_turns(
+        &mut job,
+        &m,
+        FILE,
+        &mut [ROW; 4],
+        &mut actions,
+        &mut [MATCH; 4],
+        &FULL,
+    )
 }

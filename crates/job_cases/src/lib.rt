@@ -4,8 +4,8 @@ mod asked;
 #[cfg(test)]
 mod changed;
 #[cfg(test)]
-mod turns;
-#[cfg(test)]
 mod texts;
+#[cfg(test)]
+mod turns;
 #[cfg(test)]
 mod worked;

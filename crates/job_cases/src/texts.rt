@@ -88,14 +88,22 @@ fn texts_at_their_edges(rt: LibcRuntime) -> Result<(), Fail> {
     for (part, times, end, by_table, by_relation) in TEXTS {
         let text = written(rt.alloc(), part, times, end)?;
         check_eq(number(TableMachine::new().make(text.as_slice())), by_table)?;
-        check_eq(number(RelationMachine::new().make(text.as_slice())), by_relation)?;
+        check_eq(
+            number(RelationMachine::new().make(text.as_slice())),
+            by_relation,
+        )?;
     }
     Ok(())
 }
 
 fn count(told: &Option<Told>) -> Option<usize> {
     match told {
-        Some(Told { answer: Answer::Matches(n), .. }) => Some(*n),
+        Some(
+            Told {
+                answer: Answer::Matches(n),
+                ..
+            },
+        ) => Some(*n),
         _ => None,
     }
 }
@@ -104,7 +112,14 @@ fn count(told: &Option<Told>) -> Option<usize> {
 #[test]
 fn made_again(rt: LibcRuntime) -> Result<(), Fail> {
     let file = b"<day><tour><stop/></tour><stop></stop></day>";
-    let texts: [(&[u8], usize); 6] = [(b"", 0), (b"//stop", 2), (b"/", 2), (b"//a/*/*/*/*/*", 2), (b"/day", 1), (b"//*\n//day", 5)];
+    let texts: [(&[u8], usize); 6] = [
+        (b"", 0),
+        (b"//stop", 2),
+        (b"/", 2),
+        (b"//a/*/*/*/*/*", 2),
+        (b"/day", 1),
+        (b"//*\n//day", 5),
+    ];
     let mut m = TableMachine::new();
     for (text, matches) in texts {
         let _ = m.make(text);

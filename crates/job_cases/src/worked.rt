@@ -16,17 +16,35 @@ use table::TableMachine;
 use table::tabled::TableMachineMachine;
 
 const FILE: &[u8] = b"<day><tour><stop/></tour><stop></stop></day>";
+
 const TEXT: &[u8] = b"/day/stop\n//stop\n/day//tour/*";
 
 static FOUND: [Match; 4] = [
-    Match { place: 11, query: 1 },
-    Match { place: 11, query: 2 },
-    Match { place: 25, query: 0 },
-    Match { place: 25, query: 1 },
+    Match {
+        place: 11,
+        query: 1,
+    },
+    Match {
+        place: 11,
+        query: 2,
+    },
+    Match {
+        place: 25,
+        query: 0,
+    },
+    Match {
+        place: 25,
+        query: 1,
+    },
 ];
 
 /// Whether the file has these matches, however it is cut in three and in whichever order it is joined.
-fn found_in_three<M: Machine>(heap: Global, m: &M, file: &[u8], found: &[Match]) -> Result<bool, AllocError> {
+fn found_in_three<M: Machine>(
+    heap: Global,
+    m: &M,
+    file: &[u8],
+    found: &[Match],
+) -> Result<bool, AllocError> {
     let Some(told) = agreed(heap, m, file)? else {
         return Ok(false);
     };
@@ -60,8 +78,21 @@ fn parities(rt: LibcRuntime) -> Result<(), Fail> {
     let found = [
         Match { place: 3, query: 0 },
         Match { place: 7, query: 1 },
-        Match { place: 16, query: 0 },
-        Match { place: 16, query: 1 },
+        Match {
+            place: 16,
+            query: 0,
+        },
+        Match {
+            place: 16,
+            query: 1,
+        },
     ];
-    check(found_in_three(rt.alloc(), &ParityMachine {}, b"<a><bb><c/></bb><d/></a>", &found)?)
+    check(
+        found_in_three(
+            rt.alloc(),
+            &ParityMachine {},
+            b"<a><bb><c/></bb><d/></a>",
+            &found,
+        )?,
+    )
 }

@@ -1,6 +1,6 @@
 -- The answers to the questions that a text of queries is asked.
-use mathlib.Core.Path.{_≡_, refl, sym, ap, subst, _∙_}
-use mathlib.Core.Bool.{Bool, true, false}
+use mathlib.Core.Path.{_≡_, sym, ap, subst, _∙_}
+use mathlib.Core.Bool.{true, false}
 use mathlib.Core.Logic.{_⊎_, inl, inr}
 use mathlib.Core.List.{List, [], _∷_, _++_, map, append-nil}
 use Prim.Native.Nat.{ℕ, _+_, _<_, _≤_}
@@ -12,13 +12,12 @@ use Rattle.std.proofs.shelf.Tests.{false≢true}
 use Rattle.machine.specs.declared.name.Name.{Name}
 use Rattle.machine.specs.declared.names.Names.{Names}
 use Rattle.machine.specs.declared.plan.Plan.{Plan}
-use Rattle.machine.specs.declared.reader.State.the-variants.{Line}
 use Rattle.machine.specs.declared.queries.Queries.{Queries}
 use Rattle.machine.specs.declared.refusal.Refusal.the-variants.{NamesOverLimit}
 use Rattle.machine.specs.Asked.{queriesOf, Once, Refused, Accepted}
 use Rattle.machine.specs.Limits.{mostBytes, mostLines, mostPositions, longestName, NamesFit}
 use Rattle.machine.specs.Queries.{Query, position, positions, size, ends, Listed, notedSteps, namesUsed}
-use Rattle.machine.specs.Reading.{closes, Draft, draft, readsAs}
+use Rattle.machine.specs.Reading.{closes, Draft, readsAs}
 use Rattle.machine.specs.Sketches.{Sketch, sketch, namesIn, sizeIn, sketchOf}
 use Rattle.machine.specs.Text.{Parses}
 use Rattle.machine.specs.Views.{bytesOf, namesOf, placesOf, lastsOf, decoded, complete, allListed}
@@ -44,7 +43,7 @@ each-short : (ns : List Name) → All (λ n. length (bytesOf n) ≤ longestName)
 each-short [] = tt
 each-short (n ∷ ns) = (short-name n, each-short ns)
 
-pub names-fit : (ns : Names) → NamesFit (namesOf ns)
+names-fit : (ns : Names) → NamesFit (namesOf ns)
 names-fit ns = record {
   few = omega (arith, length-names ns, ns .within);
   short = all-map (λ n. length n ≤ longestName) bytesOf (take (ns .count) (ns .list)) (each-short (take (ns .count) (ns .list)));
@@ -58,12 +57,12 @@ module _ (text : List ℕ) (w : closes (readsAs text .state) ≡ true) (l : leng
   pub size-is : sizeIn (readsAs text) ≡ size (readsAs text .lines)
   size-is = omega (arith, ap length (sound text w .none))
 
-  pub names-are : namesIn (readsAs text) ≡ namesUsed (readsAs text .lines)
+  names-are : namesIn (readsAs text) ≡ namesUsed (readsAs text .lines)
   names-are = ap (notedSteps (namesUsed (readsAs text .lines))) (sound text w .none)
 
   -- the plan that was put together from it
   module _ (p : Plan) (e : sketch p ≡ sketchOf (readsAs text)) where
-    pub plan-names : namesOf (p .names) ≡ namesUsed (readsAs text .lines)
+    plan-names : namesOf (p .names) ≡ namesUsed (readsAs text .lines)
     plan-names = ap (λ (S : Sketch). S .names) e ∙ names-are
 
     plan-places : placesOf p ≡ positions (namesOf (p .names)) (readsAs text .lines)
@@ -78,7 +77,7 @@ module _ (text : List ℕ) (w : closes (readsAs text .state) ≡ true) (l : leng
     listed : All (Listed (namesOf (p .names))) (readsAs text .lines)
     listed = subst (λ ns. All (Listed ns) (readsAs text .lines)) (sym plan-names) (lists-all [] (readsAs text .lines))
 
-    pub plan-queries : decoded (namesOf (p .names)) (placesOf p) ≡ readsAs text .lines
+    plan-queries : decoded (namesOf (p .names)) (placesOf p) ≡ readsAs text .lines
     plan-queries = ap (decoded (namesOf (p .names))) plan-places ∙ decoded-is (namesOf (p .names)) (readsAs text .lines) listed
 
     pub plan-whole : complete (placesOf p) ≡ true
@@ -91,7 +90,7 @@ module _ (text : List ℕ) (w : closes (readsAs text .state) ≡ true) (l : leng
     plan-ending = ap (λ (S : Sketch). S .lasts) e ∙ ap (ends 0) (sym plan-queries)
 
 pub accepted : (text : List ℕ) → length text ≤ mostBytes → closes (readsAs text .state) ≡ true → length (readsAs text .lines) ≤ mostLines → sizeIn (readsAs text) ≤ mostPositions
-  → (q : Queries) → sketch (q .plan) ≡ sketchOf (readsAs text) → Accepted text q
+    → (q : Queries) → sketch (q .plan) ≡ sketchOf (readsAs text) → Accepted text q
 unfolding queriesOf
 accepted text s w l few q e =
     let is : readsAs text .lines ≡ queriesOf q = sym (plan-queries text w l (q .plan) e) in
@@ -105,6 +104,6 @@ accepted text s w l few q e =
     }
 
 pub names-over : (text : List ℕ) → length text ≤ mostBytes → closes (readsAs text .state) ≡ true → length (readsAs text .lines) ≤ mostLines → sizeIn (readsAs text) ≤ mostPositions
-  → (NamesFit (namesIn (readsAs text)) → ⊥) → Refused text NamesOverLimit
+    → (NamesFit (namesIn (readsAs text)) → ⊥) → Refused text NamesOverLimit
 names-over text s w l few h =
     (s, (readsAs text .lines, parsed text w l, omega (arith, size-is text w l), λ f. h (subst NamesFit (sym (names-are text w l)) f)))

@@ -1,6 +1,6 @@
 -- Columns of names.
 use mathlib.Core.Path.{_≡_, refl, sym, ap, _∙_}
-use mathlib.Core.Bool.{Bool, true, false}
+use mathlib.Core.Bool.{true, false}
 use mathlib.Core.Logic.{inl, inr}
 use mathlib.Core.List.{List, [], _∷_, _++_}
 use Prim.Native.Nat.{ℕ, suc, _+_, _-_, _<_, _≤_}
@@ -17,11 +17,11 @@ use Rattle.machine.specs.Queries.{column, noted}
 use Rattle.machine.specs.Limits.{longestName, NamesFit}
 
 -- the first name that is this one
-pub column-at : (xs : List (List ℕ)) (m : List ℕ) (ys : List (List ℕ)) (n : List ℕ) → column xs n ≡ 0 → sameBytes m n ≡ true → column (xs ++ m ∷ ys) n ≡ length xs + 1
+column-at : (xs : List (List ℕ)) (m : List ℕ) (ys : List (List ℕ)) (n : List ℕ) → column xs n ≡ 0 → sameBytes m n ≡ true → column (xs ++ m ∷ ys) n ≡ length xs + 1
 column-at [] m ys n e s = grind (arith, tells, s)
 column-at (x ∷ xs) m ys n e s = let ih = column-at xs m ys n in grind (arith, tells, ih, s)
 
-pub column-push : (xs : List (List ℕ)) (m n : List ℕ) → column xs n ≡ 0 → sameBytes m n ≡ false → column (xs ++ m ∷ []) n ≡ 0
+column-push : (xs : List (List ℕ)) (m n : List ℕ) → column xs n ≡ 0 → sameBytes m n ≡ false → column (xs ++ m ∷ []) n ≡ 0
 column-push [] m n e s = grind (arith, tells, s)
 column-push (x ∷ xs) m n e s = let ih = column-push xs m n in grind (arith, tells, ih, s)
 
@@ -34,7 +34,7 @@ pub column-le : (xs : List (List ℕ)) (n : List ℕ) → column xs n < length x
 column-le [] n = omega arith
 column-le (x ∷ xs) n = let ih = column-le xs n in grind (arith, tells, ih)
 
-pub same-refl : (n : List ℕ) → sameBytes n n ≡ true
+same-refl : (n : List ℕ) → sameBytes n n ≡ true
 same-refl n = sameBytes-decides n n .1 refl
 
 -- the name of a column
@@ -42,14 +42,14 @@ pub name-at : (xs : List (List ℕ)) (n : List ℕ) → 0 < column xs n → getD
 name-at [] n h = absurd (omega arith)
 name-at (x ∷ xs) n h =
     elim (cases-bool (sameBytes x n)) [
-      inl t ↦
-        let c : column (x ∷ xs) n ≡ 1 = grind (arith, tells, t) in
-        ap (λ k. getD (x ∷ xs) (k - 1) []) c ∙ sameBytes-decides x n .0 t
-    | inr f ↦
-        let k = column xs n in
-        let p : 0 < k = grind (arith, tells, f) in
-        let c : column (x ∷ xs) n - 1 ≡ suc (k - 1) = grind (arith, tells, f) in
-        ap (λ j. getD (x ∷ xs) j []) c ∙ name-at xs n p
+      | inl t ↦
+          let c : column (x ∷ xs) n ≡ 1 = grind (arith, tells, t) in
+          ap (λ k. getD (x ∷ xs) (k - 1) []) c ∙ sameBytes-decides x n .0 t
+      | inr f ↦
+          let k = column xs n in
+          let p : 0 < k = grind (arith, tells, f) in
+          let c : column (x ∷ xs) n - 1 ≡ suc (k - 1) = grind (arith, tells, f) in
+          ap (λ j. getD (x ∷ xs) j []) c ∙ name-at xs n p
     ]
 
 pub noted-new : (ns : List (List ℕ)) (n : List ℕ) → column ns n ≡ 0 → noted ns n ≡ ns ++ n ∷ []
@@ -65,8 +65,8 @@ column-last ns n e = column-at ns n [] n e (same-refl n)
 pub noted-lists : (ns : List (List ℕ)) (n : List ℕ) → 0 < column (noted ns n) n
 noted-lists ns n =
     elim (cases-eq (column ns n) 0) [
-      inl e ↦ omega (arith, ap (λ x. column x n) (noted-new ns n e), column-last ns n e)
-    | inr e ↦ let h : 0 < column ns n = omega arith in omega (arith, ap (λ x. column x n) (noted-old ns n h))
+      | inl e ↦ omega (arith, ap (λ x. column x n) (noted-new ns n e), column-last ns n e)
+      | inr e ↦ let h : 0 < column ns n = omega arith in omega (arith, ap (λ x. column x n) (noted-old ns n h))
     ]
 
 -- what fits has no name that is too long

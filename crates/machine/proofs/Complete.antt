@@ -15,13 +15,13 @@ use Rattle.machine.specs.declared.reader.Turn.{Turn}
 use Rattle.machine.specs.declared.reader.Turn.the-variants.{On}
 use Rattle.machine.specs.Queries.{Test, any, named, QueryStep, step, Query}
 use Rattle.machine.specs.Text.{GoodTest, GoodSteps, GoodQuery, axisText, testText, queryText, Parses}
-use Rattle.machine.specs.Reading.{turn, stepsAfter, parts, sinceAfter, lined, Draft, draft, next, readsAs}
+use Rattle.machine.specs.Reading.{stepsAfter, parts, sinceAfter, lined, Draft, draft, next, readsAs}
 use Rattle.machine.proofs.Texts.{folded-append, closedText, closed-is}
 
-pub name-goes-on : (b : ℕ) → nameByte b ≡ true → parts b ≡ false
+name-goes-on : (b : ℕ) → nameByte b ≡ true → parts b ≡ false
 name-goes-on b h = grind (arith, tells)
 
-pub name-begins : (b : ℕ) → letter b ≡ true → parts b ≡ false
+name-begins : (b : ℕ) → letter b ≡ true → parts b ≡ false
 name-begins b h = grind (arith, tells)
 
 -- a byte of a name

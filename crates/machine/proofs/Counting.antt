@@ -66,7 +66,7 @@ pub record Counts (D : Draft) (s : State) (lines positions : ℕ) : Type 0 where
   pub positions-is : positions ≡ sizeIn D
 
 pub counts-on : (D : Draft) (s : State) (l p : ℕ) (b : ℕ) (s′ : State) (l′ p′ : ℕ) → Counts D s l p
-  → s′ ≡ turn s b .0 → l′ ≡ l + lineCount (turn s b .0) → p′ ≡ p + counted (turn s b .1) + lineCount (turn s b .0) → Counts (next D b) s′ l′ p′
+    → s′ ≡ turn s b .0 → l′ ≡ l + lineCount (turn s b .0) → p′ ≡ p + counted (turn s b .1) + lineCount (turn s b .0) → Counts (next D b) s′ l′ p′
 counts-on D s l p b s′ l′ p′ h a e f =
     let same : turn s b ≡ turn (D .state) b = ap (λ x. turn x b) (h .state) in
     record {
@@ -90,10 +90,6 @@ lineCount-le s = one-le (closes s)
 -- the draft of the text's first i bytes
 unfoldable pub drafted : List ℕ → ℕ → Draft
 drafted text i = folded next start (take i text)
-
-pub drafted-none : (text : List ℕ) → drafted text 0 ≡ start
-unfolding drafted
-drafted-none text = refl
 
 pub counts-none : (text : List ℕ) (s : State) → s ≡ Line → Counts (drafted text 0) s 0 0
 unfolding drafted

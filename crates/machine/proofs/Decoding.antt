@@ -1,8 +1,8 @@
 -- Positions and the queries that have them.
-use mathlib.Core.Path.{_≡_, refl, sym, ap, subst, _∙_}
-use mathlib.Core.Bool.{Bool, true, false, _&&_}
-use mathlib.Core.List.{List, [], _∷_, _++_, map, append-nil}
-use Prim.Native.Nat.{ℕ, suc, _+_, _-_, _<_, _≤_}
+use mathlib.Core.Path.{_≡_, refl, sym, ap, _∙_}
+use mathlib.Core.Bool.{true, false}
+use mathlib.Core.List.{List, [], _∷_, _++_, map}
+use Prim.Native.Nat.{ℕ, _+_, _-_, _<_}
 use native.Mathlib.Omega.{arith}
 use lib.Dec.{eqb, ltb}
 use lib.ListN.{length, getD}
@@ -74,6 +74,7 @@ steps-decoded names (s ∷ q) ps l = at (s .test) (l .0) ∙ ap (before s) (step
   where
     rest : List Position
     rest = map (position names) q ++ End ∷ ps
+
     at : (t : Test) → ListedTest names t → decoded names (position names (step (s .deep) t) ∷ rest) ≡ before (step (s .deep) t) (decoded names rest)
     at any k = refl
     at (named n) k = ap (λ m. before (step (s .deep) (named m)) (decoded names rest)) (name-at names n k)

@@ -1,22 +1,20 @@
 -- The sketch of a draft, byte by byte.
-use mathlib.Core.Path.{_≡_, refl, sym, ap, subst, _∙_}
+use mathlib.Core.Path.{_≡_, refl, sym, ap, _∙_}
 use mathlib.Core.Bool.{Bool, true, false, cond}
 use mathlib.Core.List.{List, [], _∷_, _++_, map, append-assoc, append-nil}
-use Prim.Native.Nat.{ℕ, suc, _+_, _<_, _≤_}
+use Prim.Native.Nat.{ℕ, suc, _+_}
 use native.Mathlib.Omega.{arith}
 use lib.ListN.{length, length-append, length-map}
 use Rattle.std.specs.Iters.{folded}
-use Rattle.std.specs.shelf.Lists.{All}
 use Rattle.std.proofs.shelf.Lists.{map-push}
-use Rattle.machine.specs.declared.position.Position.{Position}
-use Rattle.machine.specs.declared.position.Position.the-variants.{End, Any, Name}
+use Rattle.machine.specs.declared.position.Position.the-variants.{End, Name}
 use Rattle.machine.specs.declared.reader.State.{State}
 use Rattle.machine.specs.declared.reader.Turn.{Turn}
 use Rattle.machine.specs.declared.reader.Turn.the-variants.{On, Starred, Named}
-use Rattle.machine.specs.Queries.{any, named, QueryStep, step, Query, column, position, positions, size, ends, Listed, noted, notedSteps, notedAll, namesUsed}
+use Rattle.machine.specs.Queries.{any, named, QueryStep, step, Query, column, position, positions, size, ends, noted, notedSteps, namesUsed}
 use Rattle.machine.specs.Limits.{NamesFit}
 use Rattle.machine.specs.Reading.{turn, closes, stepsAfter, sinceAfter, Draft, draft, next}
-use Rattle.machine.specs.Sketches.{Sketch, drawing, pushed, ended, taken, drawn, namesIn, sizeIn, sketchOf}
+use Rattle.machine.specs.Sketches.{Sketch, drawing, ended, taken, drawn, namesIn, sketchOf}
 use Rattle.machine.proofs.Growing.{Grows, grows-none, grows-on, noted-grows, steps-grow, all-listed, lists-steps, lists-all, steps-same, positions-same, notedSteps-push, notedAll-push, fit-before}
 
 pub length-positions : (names : List (List ℕ)) (qs : List Query) → length (positions names qs) ≡ size qs
@@ -49,7 +47,7 @@ module _ (s s′ : State) (n n′ : List ℕ) (q : Query) (qs : List Query) wher
   push-is ns r = ap (λ x. positions ns qs ++ x) (map-push (position ns) q r) ∙ sym (append-assoc (positions ns qs) (map (position ns) q) (position ns r ∷ []))
 
   kept : (ms : List (List ℕ)) → Grows (namesIn (draft s n q qs)) ms
-    → positions ms qs ++ map (position ms) q ≡ positions (namesIn (draft s n q qs)) qs ++ map (position (namesIn (draft s n q qs))) q
+      → positions ms qs ++ map (position ms) q ≡ positions (namesIn (draft s n q qs)) qs ++ map (position (namesIn (draft s n q qs))) q
   kept ms g =
       let us = namesUsed qs in
       let ns = notedSteps us q in

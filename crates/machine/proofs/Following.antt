@@ -2,7 +2,7 @@
 use mathlib.Core.Path.{_≡_, refl, sym, ap, subst, _∙_}
 use mathlib.Core.Bool.{Bool, true, false, cond}
 use mathlib.Core.List.{List, [], _∷_, _++_, map}
-use Prim.Native.Nat.{ℕ, suc, _+_, _<_, _≤_}
+use Prim.Native.Nat.{ℕ, _+_, _<_, _≤_}
 use native.Mathlib.Nat.{sub-self}
 use native.Mathlib.Omega.{arith}
 use lib.ListN.{length, length-append, length-map, getD, take, drop}
@@ -20,7 +20,7 @@ use Rattle.machine.specs.declared.refusal.Refusal.the-variants.{NamesOverLimit
 use Rattle.machine.specs.declared.reader.State.{State}
 use Rattle.machine.specs.declared.reader.State.the-variants.{Line}
 use Rattle.machine.specs.declared.reader.Turn.{Turn}
-use Rattle.machine.specs.Queries.{Query, size, ends, position, positions}
+use Rattle.machine.specs.Queries.{Query, position, positions}
 use Rattle.machine.specs.Limits.{NamesFit}
 use Rattle.machine.specs.Reading.{turn, closes, parts, sinceAfter, Draft, draft, next, start, readsAs}
 use Rattle.machine.specs.Sketches.{Sketch, drawing, sketch, taken, counted, lineCount, drawn, namesIn, sizeIn, sketchOf}
@@ -46,10 +46,10 @@ unfolding drafted readsAs
 ahead-more text i l = record {
   rest = drop (i + 1) text ++ 10 ∷ [];
   is =
-    folded-append next start text (10 ∷ [])
-    ∙ ap (λ x. folded next (folded next start x) (10 ∷ [])) (sym (take-append-drop i text) ∙ ap (λ x. take i text ++ x) (drop-more text i 0 l))
-    ∙ ap (λ D. folded next D (10 ∷ [])) (folded-append next start (take i text) (getD text i 0 ∷ drop (i + 1) text))
-    ∙ sym (folded-append next (next (folded next start (take i text)) (getD text i 0)) (drop (i + 1) text) (10 ∷ []));
+      folded-append next start text (10 ∷ [])
+      ∙ ap (λ x. folded next (folded next start x) (10 ∷ [])) (sym (take-append-drop i text) ∙ ap (λ x. take i text ++ x) (drop-more text i 0 l))
+      ∙ ap (λ D. folded next D (10 ∷ [])) (folded-append next start (take i text) (getD text i 0 ∷ drop (i + 1) text))
+      ∙ sym (folded-append next (next (folded next start (take i text)) (getD text i 0)) (drop (i + 1) text) (10 ∷ []));
 }
 
 pub ahead-last : (text : List ℕ) (i : ℕ) → length text ≤ i → Ahead text (drafted text i) 10
@@ -83,13 +83,13 @@ module _ (text : List ℕ) (D : Draft) (from i : ℕ) (s : State) (p : Plan) (b 
   unfit h fits =
       let now-fits = fit-so-far (next D b) (a .rest) (subst (λ (E : Draft). NamesFit (namesIn E)) (a .is) fits) in
       let same : taken (turn s b .1) (between from i text) (sketch p) .names ≡ namesIn (next D b) =
-        ap (λ (x : State × Turn). taken (x .1) (between from i text) (sketch p) .names) same-turn
-        ∙ ap (λ n. taken (turn (D .state) b .1) n (sketch p) .names) (f .name)
-        ∙ ap (λ S. taken (turn (D .state) b .1) (D .since) S .names) (f .sketched)
-        ∙ sym (names-next D b) in
+      ap (λ (x : State × Turn). taken (x .1) (between from i text) (sketch p) .names) same-turn
+      ∙ ap (λ n. taken (turn (D .state) b .1) n (sketch p) .names) (f .name)
+      ∙ ap (λ S. taken (turn (D .state) b .1) (D .since) S .names) (f .sketched)
+      ∙ sym (names-next D b) in
       h (subst NamesFit (sym same) now-fits)
 
-  pub sketched-on : (S : Sketch) → S ≡ drawn (turn s b .0) (turn s b .1) (between from i text) (sketch p) → S ≡ sketchOf (next D b)
+  sketched-on : (S : Sketch) → S ≡ drawn (turn s b .0) (turn s b .1) (between from i text) (sketch p) → S ≡ sketchOf (next D b)
   sketched-on S e =
       e
       ∙ ap (λ (x : State × Turn). drawn (x .0) (x .1) (between from i text) (sketch p)) same-turn
@@ -110,7 +110,7 @@ follows-none text s S e h = record { low = omega arith; state = e; name = refl; 
 
 -- one byte on: the name goes on, or begins anew after a byte that parts names
 module _ (text : List ℕ) (from i : ℕ) (s s′ : State) (p : Plan) (S : Sketch) (l : i < length text) (f : Follows (drafted text i) text from i s (sketch p))
-  (e : s′ ≡ turn s (getD text i 0) .0) (h : S ≡ drawn (turn s (getD text i 0) .0) (turn s (getD text i 0) .1) (between from i text) (sketch p)) where
+    (e : s′ ≡ turn s (getD text i 0) .0) (h : S ≡ drawn (turn s (getD text i 0) .0) (turn s (getD text i 0) .1) (between from i text) (sketch p)) where
   follows : (from′ : ℕ) → from′ ≤ i + 1 → between from′ (i + 1) text ≡ sinceAfter (getD text i 0) (drafted text i .since) → Follows (drafted text (i + 1)) text from′ (i + 1) s′ S
   follows from′ low n =
       let D = drafted text i in
@@ -125,19 +125,19 @@ module _ (text : List ℕ) (from i : ℕ) (s s′ : State) (p : Plan) (S : Sketc
   pub follows-parted : parts (getD text i 0) ≡ true → Follows (drafted text (i + 1)) text (i + 1) (i + 1) s′ S
   follows-parted t =
       follows (i + 1) (omega arith)
-        (ap (λ k. take k (drop (i + 1) text)) (sub-self (i + 1)) ∙ sym (cond-true (parts (getD text i 0)) [] _ t))
+      (ap (λ k. take k (drop (i + 1) text)) (sub-self (i + 1)) ∙ sym (cond-true (parts (getD text i 0)) [] _ t))
 
   pub follows-on : parts (getD text i 0) ≡ false → Follows (drafted text (i + 1)) text from (i + 1) s′ S
   follows-on t =
       follows from (omega (arith, f .low))
-        (between-more text from i 0 (f .low) l ∙ ap (λ x. x ++ getD text i 0 ∷ []) (f .name) ∙ sym (cond-false (parts (getD text i 0)) [] _ t))
+      (between-more text from i 0 (f .low) l ∙ ap (λ x. x ++ getD text i 0 ∷ []) (f .name) ∙ sym (cond-false (parts (getD text i 0)) [] _ t))
 
 -- what a byte leaves: the plan of the draft with it, or names that do not fit
 abbrev pub Told : {T : Type 0} → List ℕ → Draft → Result T Refusal → Sketch → Type 0
 Told text D r S = Cases r (λ _. S ≡ sketchOf D) (λ e. (e ≡ NamesOverLimit) × (NamesFit (namesIn (readsAs text)) → ⊥))
 
 pub told : {T : Type 0} (text : List ℕ) (D : Draft) (from i j : ℕ) (s : State) (p : Plan) (b : ℕ) → Follows D text from i s (sketch p) → Ahead text D b → i ≡ j → (r : Result T Refusal) (S : Sketch)
-  → Cases r (λ _. S ≡ drawn (turn s b .0) (turn s b .1) (between from j text) (sketch p)) (λ e. (e ≡ NamesOverLimit) × (NamesFit (taken (turn s b .1) (between from j text) (sketch p) .names) → ⊥))
-  → Told text (next D b) r S
+    → Cases r (λ _. S ≡ drawn (turn s b .0) (turn s b .1) (between from j text) (sketch p)) (λ e. (e ≡ NamesOverLimit) × (NamesFit (taken (turn s b .1) (between from j text) (sketch p) .names) → ⊥))
+    → Told text (next D b) r S
 told text D from i j s p b f a e (Ok x) S h = sketched-on text D from i s p b f a S (subst (λ k. S ≡ drawn (turn s b .0) (turn s b .1) (between from k text) (sketch p)) (sym e) h)
 told text D from i j s p b f a e (Err x) S h = (h .0, unfit text D from i s p b f a (subst (λ k. NamesFit (taken (turn s b .1) (between from k text) (sketch p) .names) → ⊥) (sym e) (h .1)))

@@ -6,10 +6,9 @@ use Prim.Native.Nat.{ℕ, _+_, _<_, _≤_}
 use native.Mathlib.Omega.{arith}
 use lib.ListN.{length, length-append}
 use Rattle.std.specs.shelf.Lists.{All}
-use Rattle.std.proofs.shelf.Elements.{all-from-getD, all-getD}
 use Rattle.std.proofs.shelf.Tests.{cases-eq}
-use Rattle.machine.specs.declared.position.Position.the-variants.{End, Any, Name}
-use Rattle.machine.specs.Queries.{Test, any, named, QueryStep, Query, column, positionOf, position, positions, ListedTest, Listed, noted, notedTest, notedSteps, notedAll, namesUsed}
+use Rattle.machine.specs.declared.position.Position.the-variants.{Name}
+use Rattle.machine.specs.Queries.{Test, any, named, QueryStep, Query, column, positionOf, position, positions, ListedTest, Listed, noted, notedTest, notedSteps, notedAll}
 use Rattle.machine.specs.Limits.{longestName, NamesFit}
 use Rattle.machine.proofs.Columns.{column-append, noted-new, noted-old, noted-lists}
 
@@ -27,8 +26,8 @@ grows-on xs ys zs g h = record { rest = g .rest ++ h .rest; is = h .is ∙ ap (�
 pub noted-grows : (ns : List (List ℕ)) (n : List ℕ) → Grows ns (noted ns n)
 noted-grows ns n =
     elim (cases-eq (column ns n) 0) [
-      inl e ↦ record { rest = n ∷ []; is = noted-new ns n e }
-    | inr e ↦ let h : 0 < column ns n = omega arith in record { rest = []; is = noted-old ns n h ∙ sym (append-nil ns) }
+      | inl e ↦ record { rest = n ∷ []; is = noted-new ns n e }
+      | inr e ↦ let h : 0 < column ns n = omega arith in record { rest = []; is = noted-old ns n h ∙ sym (append-nil ns) }
     ]
 
 test-grows : (ns : List (List ℕ)) (t : Test) → Grows ns (notedTest ns t)

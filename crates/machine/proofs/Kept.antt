@@ -1,14 +1,13 @@
 -- What every value of `Queries` keeps.
-use mathlib.Core.Path.{_≡_, refl, sym, ap, _∙_}
-use mathlib.Core.List.{List, [], _∷_}
-use Prim.Native.Nat.{ℕ, suc, _+_, _≤_}
+use mathlib.Core.Path.{_≡_, sym, ap, _∙_}
+use Prim.Native.Nat.{_≤_}
 use native.Mathlib.Omega.{arith}
 use lib.ListN.{length}
 use Rattle.std.specs.shelf.Lists.{All}
 use Rattle.machine.specs.declared.queries.Queries.{Queries}
 use Rattle.machine.specs.Asked.{queriesOf, listedNames}
 use Rattle.machine.specs.Limits.{mostLines, mostPositions, mostNames}
-use Rattle.machine.specs.Queries.{Query, positions, size, ends, Listed}
+use Rattle.machine.specs.Queries.{positions, size, ends, Listed}
 use Rattle.machine.specs.Views.{placesOf, lastsOf}
 use Rattle.machine.proofs.Decoding.{encoded, decoded-listed}
 use Rattle.machine.proofs.Drawing.{length-positions, length-ends}

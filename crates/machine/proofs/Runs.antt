@@ -1,9 +1,9 @@
 -- The run of position sets decides `meets?`.
-use mathlib.Core.Path.{_≡_, refl, sym, ap, subst, _∙_}
-use mathlib.Core.Bool.{Bool, true, false, _&&_, _||_}
-use mathlib.Core.List.{List, [], _∷_, _++_, map}
-use Prim.Native.Nat.{ℕ, zero, suc, _+_, _-_, _<_, _≤_}
-use lib.ListN.{length, getD, drop, replicate, length-replicate}
+use mathlib.Core.Path.{_≡_, refl, sym, ap, _∙_}
+use mathlib.Core.Bool.{Bool, false, _&&_, _||_}
+use mathlib.Core.List.{List, [], _∷_}
+use Prim.Native.Nat.{ℕ, zero, suc, _-_}
+use lib.ListN.{length, getD, replicate, length-replicate}
 use native.Mathlib.Omega.{arith}
 use Rattle.machine.specs.Paths.{Step, meets?, stepped, run, begin}
 
@@ -14,11 +14,11 @@ some-meets [] (b ∷ bs) path = b && meets? [] path
 some-meets (s ∷ ss) (b ∷ bs) path = (b && meets? (s ∷ ss) path) || some-meets ss bs path
 
 taut : (came b deep fits m m′ rest : Bool)
-  → (((came || (b && deep)) && m) || (((b && fits) && m′) || rest)) ≡ ((came && m) || ((b && ((fits && m′) || (deep && m))) || rest))
+    → (((came || (b && deep)) && m) || (((b && fits) && m′) || rest)) ≡ ((came && m) || ((b && ((fits && m′) || (deep && m))) || rest))
 taut came b deep fits m m′ rest = grind arith
 
 some-step : {N : Type 0} (ss : List (Step N)) (n : N) (came : Bool) (bs : List Bool) (ns : List N) → length bs ≡ suc (length ss)
-  → some-meets ss (stepped ss n came bs) ns ≡ ((came && meets? ss ns) || some-meets ss bs (n ∷ ns))
+    → some-meets ss (stepped ss n came bs) ns ≡ ((came && meets? ss ns) || some-meets ss bs (n ∷ ns))
 some-step ss n came [] ns e = absurd (omega arith)
 some-step [] n came (b ∷ bs) ns e = grind arith
 some-step (s ∷ ss) n came (b ∷ bs) ns e =

@@ -1,9 +1,9 @@
 -- What is read stands for what it is read as.
 use mathlib.Core.Path.{_≡_, refl, sym, ap, subst, _∙_}
-use mathlib.Core.Bool.{Bool, true, false, cond}
+use mathlib.Core.Bool.{Bool, true, false}
 use mathlib.Core.Logic.{inl, inr}
 use mathlib.Core.List.{List, [], _∷_, _++_, append-assoc, append-nil}
-use Prim.Native.Nat.{ℕ, _<_, _≤_}
+use Prim.Native.Nat.{ℕ, _<_}
 use native.Mathlib.Omega.{arith}
 use lib.Dec.{eqb}
 use lib.ListN.{length}
@@ -12,17 +12,15 @@ use Rattle.std.specs.shelf.Lists.{All}
 use Rattle.std.proofs.shelf.Elements.{all-push}
 use Rattle.std.proofs.shelf.Lists.{length-push, append-cancel-right}
 use Rattle.std.proofs.shelf.Tests.{cases-bool, cond-false, eqb-true, false≢true}
-use Rattle.std.proofs.shelf.Ways.{tells}
 use Rattle.tags.specs.Bytes.{letter, nameByte}
 use Rattle.machine.specs.declared.reader.State.{State}
 use Rattle.machine.specs.declared.reader.State.the-variants.{Line, Slash, Deep, Inside, Star, Bad}
 use Rattle.machine.specs.declared.reader.Turn.{Turn}
 use Rattle.machine.specs.declared.reader.Turn.the-variants.{On}
 use Rattle.machine.specs.Queries.{Test, any, named, QueryStep, step, Query}
-use Rattle.machine.specs.Limits.{mostLines}
-use Rattle.machine.specs.Text.{GoodName, GoodTest, GoodSteps, GoodQuery, axisText, testText, queryText, linesText, Parses}
+use Rattle.machine.specs.Text.{GoodName, GoodTest, GoodSteps, GoodQuery, axisText, testText, queryText, linesText}
 use Rattle.machine.specs.Reading.{turn, closes, stepsAfter, sinceAfter, lined, Draft, draft, next, readsAs}
-use Rattle.machine.proofs.Texts.{folded-append, closedText, closed-is, closed-push, query-push}
+use Rattle.machine.proofs.Texts.{closedText, closed-is, closed-push, query-push}
 use Rattle.machine.proofs.Complete.{inside, slash-letter, deep-letter}
 
 -- the bytes of the step that is being read
@@ -84,7 +82,7 @@ good-lines qs q g n s = all-push GoodQuery qs q g (record { some = n; steps = s 
 
 -- by what a byte came to
 by-turn : (s : State) (n : List ℕ) (q : Query) (qs : List Query) (b : ℕ) (bs : List ℕ) (t : State × Turn) → turn s b ≡ t
-  → Wrote-draft (lined (t .0) (sinceAfter b n) (stepsAfter (t .1) n q) qs) bs → Wrote-draft (next (draft s n q qs) b) bs
+    → Wrote-draft (lined (t .0) (sinceAfter b n) (stepsAfter (t .1) n q) qs) bs → Wrote-draft (next (draft s n q qs) b) bs
 by-turn s n q qs b bs t e w = subst (λ (u : State × Turn). Wrote-draft (lined (u .0) (sinceAfter b n) (stepsAfter (u .1) n q) qs) bs) (sym e) w
 
 at-byte : (s : State) (n : List ℕ) (q : Query) (qs : List Query) (b k : ℕ) (bs : List ℕ) → eqb b k ≡ true → Wrote-draft (next (draft s n q qs) k) (bs ++ k ∷ []) → Wrote-draft (next (draft s n q qs) b) (bs ++ b ∷ [])
@@ -98,19 +96,19 @@ good-on (x ∷ n) b g h = (g .0, all-push (λ y. nameByte y ≡ true) n b (g .1)
 from-slash : (n : List ℕ) (q : Query) (qs : List Query) (b : ℕ) (bs : List ℕ) → Written Slash n q qs bs → Wrote-draft (next (draft Slash n q qs) b) (bs ++ b ∷ [])
 from-slash n q qs b bs w =
     elim (cases-bool (letter b)) [
-      inl h ↦
-        let e = slash-letter n q qs b h ∙ ap (λ x. draft (Inside false) (x ++ b ∷ []) q qs) (w .held) in
-        subst (λ D. Wrote-draft D (bs ++ b ∷ [])) (sym e) (record { lines = w .lines; steps = w .steps; held = (h, tt); is = longer bs (closedText qs) (queryText q) (47 ∷ []) b (w .is) })
-    | inr h ↦ elim (cases-bool (eqb b 47)) [
-        inl k ↦ at-byte Slash n q qs b 47 bs k (record { lines = w .lines; steps = w .steps; held = refl; is = longer bs (closedText qs) (queryText q) (47 ∷ []) 47 (w .is) })
-      | inr k ↦ elim (cases-bool (eqb b 42)) [
-          inl m ↦ at-byte Slash n q qs b 42 bs m (record {
+      | inl h ↦
+          let e = slash-letter n q qs b h ∙ ap (λ x. draft (Inside false) (x ++ b ∷ []) q qs) (w .held) in
+          subst (λ D. Wrote-draft D (bs ++ b ∷ [])) (sym e) (record { lines = w .lines; steps = w .steps; held = (h, tt); is = longer bs (closedText qs) (queryText q) (47 ∷ []) b (w .is) })
+      | inr h ↦ elim (cases-bool (eqb b 47)) [
+        | inl k ↦ at-byte Slash n q qs b 47 bs k (record { lines = w .lines; steps = w .steps; held = refl; is = longer bs (closedText qs) (queryText q) (47 ∷ []) 47 (w .is) })
+        | inr k ↦ elim (cases-bool (eqb b 42)) [
+          | inl m ↦ at-byte Slash n q qs b 42 bs m (record {
             lines = w .lines;
             steps = good-steps q (step false any) (w .steps) tt;
             held = omega (arith, length-push q (step false any));
             is = steps-grow (bs ++ 42 ∷ []) (closedText qs) q false any (47 ∷ 42 ∷ []) refl (longer bs (closedText qs) (queryText q) (47 ∷ []) 42 (w .is));
           })
-        | inr m ↦ by-turn Slash n q qs b (bs ++ b ∷ []) (Bad, On) (cond-false (letter b) _ _ h ∙ cond-false (eqb b 47) _ _ k ∙ cond-false (eqb b 42) _ _ m) tt
+          | inr m ↦ by-turn Slash n q qs b (bs ++ b ∷ []) (Bad, On) (cond-false (letter b) _ _ h ∙ cond-false (eqb b 47) _ _ k ∙ cond-false (eqb b 42) _ _ m) tt
         ]
       ]
     ]
@@ -118,17 +116,17 @@ from-slash n q qs b bs w =
 from-deep : (n : List ℕ) (q : Query) (qs : List Query) (b : ℕ) (bs : List ℕ) → Written Deep n q qs bs → Wrote-draft (next (draft Deep n q qs) b) (bs ++ b ∷ [])
 from-deep n q qs b bs w =
     elim (cases-bool (letter b)) [
-      inl h ↦
-        let e = deep-letter n q qs b h ∙ ap (λ x. draft (Inside true) (x ++ b ∷ []) q qs) (w .held) in
-        subst (λ D. Wrote-draft D (bs ++ b ∷ [])) (sym e) (record { lines = w .lines; steps = w .steps; held = (h, tt); is = longer bs (closedText qs) (queryText q) (47 ∷ 47 ∷ []) b (w .is) })
-    | inr h ↦ elim (cases-bool (eqb b 42)) [
-        inl m ↦ at-byte Deep n q qs b 42 bs m (record {
+      | inl h ↦
+          let e = deep-letter n q qs b h ∙ ap (λ x. draft (Inside true) (x ++ b ∷ []) q qs) (w .held) in
+          subst (λ D. Wrote-draft D (bs ++ b ∷ [])) (sym e) (record { lines = w .lines; steps = w .steps; held = (h, tt); is = longer bs (closedText qs) (queryText q) (47 ∷ 47 ∷ []) b (w .is) })
+      | inr h ↦ elim (cases-bool (eqb b 42)) [
+        | inl m ↦ at-byte Deep n q qs b 42 bs m (record {
           lines = w .lines;
           steps = good-steps q (step true any) (w .steps) tt;
           held = omega (arith, length-push q (step true any));
           is = steps-grow (bs ++ 42 ∷ []) (closedText qs) q true any (47 ∷ 47 ∷ 42 ∷ []) refl (longer bs (closedText qs) (queryText q) (47 ∷ 47 ∷ []) 42 (w .is));
         })
-      | inr m ↦ by-turn Deep n q qs b (bs ++ b ∷ []) (Bad, On) (cond-false (letter b) _ _ h ∙ cond-false (eqb b 42) _ _ m) tt
+        | inr m ↦ by-turn Deep n q qs b (bs ++ b ∷ []) (Bad, On) (cond-false (letter b) _ _ h ∙ cond-false (eqb b 42) _ _ m) tt
       ]
     ]
 
@@ -139,23 +137,23 @@ from-inside d n q qs b bs w =
     let steps = good-steps q s (w .steps) (w .held) in
     let is = steps-grow bs C q d (named n) (axisText d ++ n) refl (w .is) in
     elim (cases-bool (nameByte b)) [
-      inl h ↦
-        subst (λ D. Wrote-draft D (bs ++ b ∷ [])) (sym (inside d n q qs b h)) (record {
-          lines = w .lines;
-          steps = w .steps;
-          held = good-on n b (w .held) h;
-          is = longer bs C (queryText q) (axisText d ++ n) b (w .is) ∙ ap (λ x. C ++ (queryText q ++ x)) (append-assoc (axisText d) n (b ∷ []));
-        })
-    | inr h ↦ elim (cases-bool (eqb b 47)) [
-        inl k ↦ at-byte (Inside d) n q qs b 47 bs k (record { lines = w .lines; steps = steps; held = refl; is = longer bs C (queryText (q ++ s ∷ [])) [] 47 is })
-      | inr k ↦ elim (cases-bool (eqb b 10)) [
-          inl m ↦ at-byte (Inside d) n q qs b 10 bs m (record {
+      | inl h ↦
+          subst (λ D. Wrote-draft D (bs ++ b ∷ [])) (sym (inside d n q qs b h)) (record {
+            lines = w .lines;
+            steps = w .steps;
+            held = good-on n b (w .held) h;
+            is = longer bs C (queryText q) (axisText d ++ n) b (w .is) ∙ ap (λ x. C ++ (queryText q ++ x)) (append-assoc (axisText d) n (b ∷ []));
+          })
+      | inr h ↦ elim (cases-bool (eqb b 47)) [
+        | inl k ↦ at-byte (Inside d) n q qs b 47 bs k (record { lines = w .lines; steps = steps; held = refl; is = longer bs C (queryText (q ++ s ∷ [])) [] 47 is })
+        | inr k ↦ elim (cases-bool (eqb b 10)) [
+          | inl m ↦ at-byte (Inside d) n q qs b 10 bs m (record {
             lines = good-lines qs (q ++ s ∷ []) (w .lines) (omega (arith, length-push q s)) steps;
             steps = tt;
             held = refl;
             is = line-grows bs qs (q ++ s ∷ []) is;
           })
-        | inr m ↦ by-turn (Inside d) n q qs b (bs ++ b ∷ []) (Bad, On) (cond-false (nameByte b) _ _ h ∙ cond-false (eqb b 47) _ _ k ∙ cond-false (eqb b 10) _ _ m) tt
+          | inr m ↦ by-turn (Inside d) n q qs b (bs ++ b ∷ []) (Bad, On) (cond-false (nameByte b) _ _ h ∙ cond-false (eqb b 47) _ _ k ∙ cond-false (eqb b 10) _ _ m) tt
         ]
       ]
     ]
@@ -163,23 +161,23 @@ from-inside d n q qs b bs w =
 from-star : (n : List ℕ) (q : Query) (qs : List Query) (b : ℕ) (bs : List ℕ) → Written Star n q qs bs → Wrote-draft (next (draft Star n q qs) b) (bs ++ b ∷ [])
 from-star n q qs b bs w =
     elim (cases-bool (eqb b 47)) [
-      inl k ↦ at-byte Star n q qs b 47 bs k (record { lines = w .lines; steps = w .steps; held = refl; is = longer bs (closedText qs) (queryText q) [] 47 (w .is) })
-    | inr k ↦ elim (cases-bool (eqb b 10)) [
-        inl m ↦ at-byte Star n q qs b 10 bs m (record {
+      | inl k ↦ at-byte Star n q qs b 47 bs k (record { lines = w .lines; steps = w .steps; held = refl; is = longer bs (closedText qs) (queryText q) [] 47 (w .is) })
+      | inr k ↦ elim (cases-bool (eqb b 10)) [
+        | inl m ↦ at-byte Star n q qs b 10 bs m (record {
           lines = good-lines qs q (w .lines) (w .held) (w .steps);
           steps = tt;
           held = refl;
           is = line-grows bs qs q (w .is);
         })
-      | inr m ↦ by-turn Star n q qs b (bs ++ b ∷ []) (Bad, On) (cond-false (eqb b 47) _ _ k ∙ cond-false (eqb b 10) _ _ m) tt
+        | inr m ↦ by-turn Star n q qs b (bs ++ b ∷ []) (Bad, On) (cond-false (eqb b 47) _ _ k ∙ cond-false (eqb b 10) _ _ m) tt
       ]
     ]
 
 from-line : (n : List ℕ) (q : Query) (qs : List Query) (b : ℕ) (bs : List ℕ) → Written Line n q qs bs → Wrote-draft (next (draft Line n q qs) b) (bs ++ b ∷ [])
 from-line n q qs b bs w =
     elim (cases-bool (eqb b 47)) [
-      inl k ↦ at-byte Line n q qs b 47 bs k (record { lines = w .lines; steps = w .steps; held = refl; is = longer bs (closedText qs) (queryText q) [] 47 (w .is) })
-    | inr k ↦ by-turn Line n q qs b (bs ++ b ∷ []) (Bad, On) (cond-false (eqb b 47) _ _ k) tt
+      | inl k ↦ at-byte Line n q qs b 47 bs k (record { lines = w .lines; steps = w .steps; held = refl; is = longer bs (closedText qs) (queryText q) [] 47 (w .is) })
+      | inr k ↦ by-turn Line n q qs b (bs ++ b ∷ []) (Bad, On) (cond-false (eqb b 47) _ _ k) tt
     ]
 
 wrote-on : (s : State) (n : List ℕ) (q : Query) (qs : List Query) (b : ℕ) (bs : List ℕ) → Wrote s n q qs bs → Wrote-draft (next (draft s n q qs) b) (bs ++ b ∷ [])
@@ -194,7 +192,7 @@ wrote-all : (D : Draft) (bs cs : List ℕ) → Wrote-draft D bs → Wrote-draft 
 wrote-all D bs [] w = subst (Wrote-draft D) (sym (append-nil bs)) w
 wrote-all D bs (b ∷ cs) w =
     subst (Wrote-draft (folded next (next D b) cs)) (append-assoc bs (b ∷ []) cs)
-      (wrote-all (next D b) (bs ++ b ∷ []) cs (wrote-on (D .state) (D .since) (D .steps) (D .lines) b bs w))
+    (wrote-all (next D b) (bs ++ b ∷ []) cs (wrote-on (D .state) (D .since) (D .steps) (D .lines) b bs w))
 
 at-line : (s : State) (n : List ℕ) (q : Query) (qs : List Query) (bs : List ℕ) → closes s ≡ true → Wrote s n q qs bs → Written Line n q qs bs
 at-line Line n q qs bs e w = w

@@ -1,10 +1,10 @@
 -- Places and the decision.
-use mathlib.Core.Path.{_≡_, refl, sym, ap, subst, _∙_}
-use mathlib.Core.Bool.{Bool, true, false, _&&_, _||_}
-use mathlib.Core.Logic.{_⊎_, inl, inr}
-use mathlib.Core.List.{List, [], _∷_, _++_, map}
+use mathlib.Core.Path.{_≡_, refl, ap, subst, _∙_}
+use mathlib.Core.Bool.{true, false, _&&_}
+use mathlib.Core.Logic.{inl, inr}
+use mathlib.Core.List.{List, [], _∷_}
 use Prim.Native.Nat.{ℕ, zero, suc, _+_, _-_, _<_, _≤_}
-use lib.ListN.{length, getD, drop, replicate}
+use lib.ListN.{length, getD, drop}
 use native.Mathlib.Omega.{arith}
 use native.Mathlib.Numerals.{unary-clauses}
 use Rattle.std.proofs.shelf.Lists.{drop-more, drop-all}
@@ -37,9 +37,10 @@ stand-up b (s ∷ ss) (p ∷ ps) n path h = (placed-up b s p n path (h .0), stan
 stand-skip : {N : Type 0} (s : Step N) (ss : List (Step N)) (ps : List ℕ) (n : N) (path : List N) → s .deep ≡ true → Stand 0 (s ∷ ss) ps path → Stand 0 (s ∷ ss) (up ps) (n ∷ path)
 stand-skip s ss [] n path d h = h
 stand-skip s ss (p ∷ ps) n path d h =
-    let u = placed-up 0 s p n path (h .0) in
-    (record { later = omega arith; inside = u .inside; right-after = λ f. absurd (both-ways (s .deep) f d); fitting = u .fitting },
-     stand-up p ss ps n path (h .1))
+    let u = placed-up 0 s p n path (h .0) in (
+      record { later = omega arith; inside = u .inside; right-after = λ f. absurd (both-ways (s .deep) f d); fitting = u .fitting },
+      stand-up p ss ps n path (h .1),
+    )
 
 placed-first : {N : Type 0} (s : Step N) (n : N) (path : List N) → s .fits n ≡ true → Placed 0 s 1 (n ∷ path)
 placed-first s n path f = record { later = omega arith; inside = omega arith; right-after = λ _. refl; fitting = λ d. f }
@@ -50,19 +51,19 @@ places-for [] (n ∷ ns) h = absurd (both-ways false refl h)
 places-for (s ∷ ss) [] h = absurd (both-ways false refl h)
 places-for (s ∷ ss) (n ∷ ns) h =
     elim (or-cases (s .fits n && meets? ss ns) (s .deep && meets? (s ∷ ss) ns) h) [
-      inl a ↦
-        let ab = and-parts (s .fits n) (meets? ss ns) a in
-        let r = places-for ss ns (ab .1) in
-        (1 ∷ up (r .0), (placed-first s n ns (ab .0), stand-up 0 ss (r .0) n ns (r .1)))
-    | inr a ↦
-        let ab = and-parts (s .deep) (meets? (s ∷ ss) ns) a in
-        let r = places-for (s ∷ ss) ns (ab .1) in
-        (up (r .0), stand-skip s ss (r .0) n ns (ab .0) (r .1))
+      | inl a ↦
+          let ab = and-parts (s .fits n) (meets? ss ns) a in
+          let r = places-for ss ns (ab .1) in
+          (1 ∷ up (r .0), (placed-first s n ns (ab .0), stand-up 0 ss (r .0) n ns (r .1)))
+      | inr a ↦
+          let ab = and-parts (s .deep) (meets? (s ∷ ss) ns) a in
+          let r = places-for (s ∷ ss) ns (ab .1) in
+          (up (r .0), stand-skip s ss (r .0) n ns (ab .0) (r .1))
     ]
 
 -- a step that stands k names further on
 reach : {N : Type 0} (k b p : ℕ) (s : Step N) (ss : List (Step N)) (path : List N) (d : N) → p ≡ b + suc k → p ≤ length path → (0 < k → s .deep ≡ true)
-  → s .fits (getD path (p - 1) d) ≡ true → meets? ss (drop p path) ≡ true → meets? (s ∷ ss) (drop b path) ≡ true
+    → s .fits (getD path (p - 1) d) ≡ true → meets? ss (drop p path) ≡ true → meets? (s ∷ ss) (drop b path) ≡ true
 reach zero b p s ss path d e i dp f m =
     let split = drop-more path b d (omega arith) in
     let pe : p ≡ b + 1 = omega arith in
@@ -94,9 +95,10 @@ stands-meets b (s ∷ ss) (p ∷ ps) path h =
     reach k b p s ss path d e (at .inside) (deep-if b s p k path at e) (at .fitting d) (stands-meets p ss ps path (h .1))
 
 pub meets-decides : {N : Type 0} (ss : List (Step N)) (path : List N) → Decides (meets? ss path) (Meets ss path)
-meets-decides ss path =
-    (λ h. let r = places-for ss path h in record { places = r .0; stand = r .1 },
-     λ m. stands-meets 0 ss (m .places) path (m .stand))
+meets-decides ss path = (
+  λ h. let r = places-for ss path h in record { places = r .0; stand = r .1 },
+  λ m. stands-meets 0 ss (m .places) path (m .stand),
+)
 
 pub path-rule : {N : Type 0} → PathRule N
 path-rule ss path = (meets-decides ss path, run-meets? ss path)

@@ -2,7 +2,6 @@
 use mathlib.Core.Path.{_≡_, refl, sym, ap, _∙_}
 use mathlib.Core.List.{List, [], _∷_, _++_, append-assoc, append-nil}
 use Prim.Native.Nat.{ℕ}
-use native.Mathlib.Omega.{arith}
 use Rattle.std.specs.Iters.{folded}
 use Rattle.machine.specs.Queries.{QueryStep, Query}
 use Rattle.machine.specs.Text.{axisText, testText, queryText, linesText}

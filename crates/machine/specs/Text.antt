@@ -6,7 +6,7 @@ use Prim.Native.Nat.{ℕ, _<_, _≤_}
 use lib.ListN.{length}
 use Rattle.std.specs.shelf.Lists.{All}
 use Rattle.tags.specs.Bytes.{letter, nameByte}
-use Rattle.machine.specs.Queries.{Test, any, named, QueryStep, Query}
+use Rattle.machine.specs.Queries.{Test, any, named, Query}
 use Rattle.machine.specs.Limits.{mostLines}
 
 -- a name, as in a tag

@@ -26,7 +26,13 @@ impl Plan {
     pub fn new() -> Plan
         ensures { λ r. ⌜ sketch r ≡ drawing [] [] [] ⌝ }
     {
-        Plan { list: [Position::End; MOST_POSITIONS], count: 0, names: Names::none(), lasts: [0; MOST_LINES], lines: 0 }
+        Plan {
+            list: [Position::End; MOST_POSITIONS],
+            count: 0,
+            names: Names::none(),
+            lasts: [0; MOST_LINES],
+            lines: 0,
+        }
     }
 
     fn push(&mut self, p: Position)

@@ -17,7 +17,10 @@ impl Name {
     fn none() -> Name
         ensures { λ r. ⌜ bytesOf r ≡ [] ⌝ }
     {
-        Name { bytes: [0; LONGEST_NAME], len: 0 }
+        Name {
+            bytes: [0; LONGEST_NAME],
+            len: 0,
+        }
     }
 
     fn new(name: &[u8]) -> Name
@@ -43,7 +46,10 @@ impl Names {
     pub fn none() -> Names
         ensures { λ r. ⌜ namesOf r ≡ [] ⌝ }
     {
-        Names { list: [Name::none(); MOST_NAMES], count: 0 }
+        Names {
+            list: [Name::none(); MOST_NAMES],
+            count: 0,
+        }
     }
 
     /// One more than the name's place, or 0 for an unlisted name.

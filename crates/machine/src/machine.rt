@@ -4,6 +4,7 @@ ghost use Rattle.machine.specs.Model.{Model, Lawful};
 /// A machine gives each name an action, and each path the queries that it meets. Everything above it is generic over this interface.
 pub trait Machine {
     type Action: Copy;
+
     type Plain: Copy;
 
     ghost model: { Self → Model Self·Action Self·Plain };

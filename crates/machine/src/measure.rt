@@ -41,7 +41,11 @@ impl Measure {
         ensures lines { λ r. ⌜ r .lines ≡ length (readsAs (now (text .entry)) .lines) ⌝ }
         ensures positions { λ r. ⌜ r .positions ≡ sizeIn (readsAs (now (text .entry))) ⌝ }
     {
-        let mut measure = Measure { reader: Reader::new(), lines: 0, positions: 0 };
+        let mut measure = Measure {
+            reader: Reader::new(),
+            lines: 0,
+            positions: 0,
+        };
         for b in text {
             measure.take(*b);
         }

@@ -40,8 +40,12 @@ impl Reader {
         match (self.state, b) {
             (State::Line | State::Star, b'/') => self.state = State::Slash,
             (State::Slash, b'/') => self.state = State::Deep,
-            (State::Slash, b'a'..=b'z' | b'A'..=b'Z' | b'_' | b':') => self.state = State::Inside(false),
-            (State::Deep, b'a'..=b'z' | b'A'..=b'Z' | b'_' | b':') => self.state = State::Inside(true),
+            (State::Slash, b'a'..=b'z' | b'A'..=b'Z' | b'_' | b':') => {
+                self.state = State::Inside(false);
+            }
+            (State::Deep, b'a'..=b'z' | b'A'..=b'Z' | b'_' | b':') => {
+                self.state = State::Inside(true);
+            }
             (State::Slash, b'*') => {
                 self.state = State::Star;
                 return Turn::Starred(false);
@@ -50,7 +54,10 @@ impl Reader {
                 self.state = State::Star;
                 return Turn::Starred(true);
             }
-            (State::Inside(_), b'a'..=b'z' | b'A'..=b'Z' | b'_' | b':' | b'0'..=b'9' | b'-' | b'.') => {}
+            (
+                State::Inside(_),
+                b'a'..=b'z' | b'A'..=b'Z' | b'_' | b':' | b'0'..=b'9' | b'-' | b'.',
+            ) => {}
             (State::Inside(deep), b'/') => {
                 self.state = State::Slash;
                 return Turn::Named(deep);

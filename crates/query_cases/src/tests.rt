@@ -40,7 +40,10 @@ static TEXTS: [(&[u8], u8); 21] = [
     (b"/*a", 2),
     (b"/a*", 2),
     (b"/1", 2),
-    (b"/*/*/*/*/*/*/*/*/*/*/*/*/*/*/*/*/a/b/c/d/e/f/g/h/i/j/k/l/m/n/o/p", 3),
+    (
+        b"/*/*/*/*/*/*/*/*/*/*/*/*/*/*/*/*/a/b/c/d/e/f/g/h/i/j/k/l/m/n/o/p",
+        3,
+    ),
     (b"/a/b/c/d/e/f/g/h/i/j/k/l/m/n/o/a//b", 0),
     (b"/a/b/c/d/e/f/g/h/i/j/k/l/m/n/o/p", 4),
     (b"/abcdefghijklmnopqrstuvwx", 0),

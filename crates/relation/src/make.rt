@@ -24,10 +24,11 @@ impl RelationMachine {
         ensures marks { λ r. ⌜ ((a : RelationAction) → related r .marks a ≡ replicate 8 false) ⌝ }
         ensures stays { λ r. ⌜ ((n : List ℕ) → related r .action n ≡ related r .stay) ⌝ }
     {
+        let empty = Lines::none();
         RelationMachine {
             names: Names::none(),
             moves: Moves::none(),
-            lines: Lines::none(),
+            lines: empty,
         }
     }
 

@@ -6,3 +6,4 @@ pub mod Arise
 pub mod Walks
 pub mod Telling
 pub mod Making
+pub mod Counting

@@ -31,3 +31,7 @@ abbrev pub ClosureFinds : Type 0
 ClosureFinds = (next : ℕ → ℕ → ℕ) (columns start limit : ℕ)
     → (length (closure next columns limit 0 (start ∷ [])) ≤ limit → AllArising next columns start (closure next columns limit 0 (start ∷ [])))
     × (limit < length (closure next columns limit 0 (start ∷ [])) → MoreArise next columns start limit)
+
+-- no more than `limit` sets arise where all of them are at most that many
+abbrev pub NeverBoth : Type 0
+NeverBoth = (next : ℕ → ℕ → ℕ) (columns start limit : ℕ) (sets : List ℕ) → AllArising next columns start sets → length sets ≤ limit → MoreArise next columns start limit → ⊥

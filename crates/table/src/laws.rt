@@ -1,7 +1,8 @@
 //! What the set construction finds.
-ghost use Rattle.table.specs.Arising.{ClosureFinds};
+ghost use Rattle.table.specs.Arising.{ClosureFinds, NeverBoth};
 
-/// The closure finds the sets that arise, each once, or tells that there are more than its limit.
+/// The closure finds the sets that arise, each once, or tells that there are more than its limit; never can it be both.
 pub fn closure_finds()
-    ensures { λ _. ⌜ ClosureFinds ⌝ }
+    ensures finds { λ _. ⌜ ClosureFinds ⌝ }
+    ensures either { λ _. ⌜ NeverBoth ⌝ }
 {}

@@ -28,10 +28,11 @@ impl TableMachine {
         ensures marks { λ r. ⌜ ((a : TableAction) → tabled r .marks a ≡ replicate 8 false) ⌝ }
         ensures stays { λ r. ⌜ ((n : List ℕ) → tabled r .action n ≡ tabled r .stay) ⌝ }
     {
+        let empty = Lines::none();
         TableMachine {
             names: Names::none(),
             states: States::none(),
-            lines: Lines::none(),
+            lines: empty,
         }
     }
 

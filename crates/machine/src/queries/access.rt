@@ -34,8 +34,8 @@ impl Queries {
         ensures list { λ r. ⌜ now r ≡ ends 0 (queriesOf (now (self .entry))) ⌝ }
         ensures few { λ r. ⌜ length (now r) ≤ mostLines ⌝ }
     {
-        let lines = self.plan.lines;
-        &self.plan.lasts[0..lines]
+        let count = self.count();
+        &self.plan.lasts[0..count]
     }
 
     /// The names, in the order of first use; the steps use no other.
@@ -43,7 +43,8 @@ impl Queries {
         ensures list { λ r. ⌜ namesOf r ≡ listedNames (now (self .entry)) ⌝ }
         ensures all { λ _. ⌜ All (Listed (listedNames (now (self .entry)))) (queriesOf (now (self .entry))) ⌝ }
     {
-        self.plan.names
+        let names = self.plan.names;
+        names
     }
 
     /// The number of names.

@@ -1,4 +1,4 @@
-use mathlib.Core.Path.{sym, ap, subst}
+use mathlib.Core.Path.{sym, subst}
 use native.Mathlib.Omega.{arith}
 use lib.ListN.{getD}
 use Rattle.machine.specs.Reading.{turn}
@@ -16,10 +16,11 @@ loop-b-again c =
     let after = c .take .last .self in
     let b = getD text i 0 in
     let t = turn (m .reader .state) b in
-    let h = counts-on (drafted text i) (m .reader .state) (m .lines) (m .positions) b (after .reader .state) (after .lines) (after .positions) (c .loop-b .inv .0) (c .take .ensures .state) (c .take .ensures .lines) (c .take .ensures .positions) in
-    (subst (λ D. Counts D (after .reader .state) (after .lines) (after .positions)) (sym (drafted-more text i (omega arith))) h,
-     omega (arith, c .take .ensures .lines, lineCount-le (t .0)),
-     omega (arith, c .take .ensures .positions, lineCount-le (t .0), counted-le (t .1)))
+    let h = counts-on (drafted text i) (m .reader .state) (m .lines) (m .positions) b (after .reader .state) (after .lines) (after .positions) (c .loop-b .inv .0) (c .take .ensures .state) (c .take .ensures .lines) (c .take .ensures .positions) in (
+      subst (λ D. Counts D (after .reader .state) (after .lines) (after .positions)) (sym (drafted-more text i (omega arith))) h,
+      omega (arith, c .take .ensures .lines, lineCount-le (t .0)),
+      omega (arith, c .take .ensures .positions, lineCount-le (t .0), counted-le (t .1)),
+    )
 
 pub returns : need.returns
 returns c =

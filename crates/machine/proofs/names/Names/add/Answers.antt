@@ -12,8 +12,8 @@ returns c =
     let x = c .new .result in
     record {
       names =
-        ap (map bytesOf) (take-more-set (ns .list) (ns .count) x (omega (arith, ns .size)))
-        ∙ map-push bytesOf (take (ns .count) (ns .list)) x
-        ∙ ap (λ b. namesOf ns ++ b ∷ []) (c .new .ensures);
+          ap (map bytesOf) (take-more-set (ns .list) (ns .count) x (omega (arith, ns .size)))
+          ∙ map-push bytesOf (take (ns .count) (ns .list)) x
+          ∙ ap (λ b. namesOf ns ++ b ∷ []) (c .new .ensures);
       count = refl;
     }

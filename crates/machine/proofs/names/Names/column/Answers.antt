@@ -11,14 +11,14 @@ returns-then-is c =
     let ns = c .args .self .now in
     let n = c .args .name .now in
     column-found (namesOf ns) (c .loop-i .i) n (omega (arith, length-names ns)) (c .loop-i .inv)
-      (ap (λ x. sameBytes x n) (getD-names ns (c .loop-i .i) (c .index-self-i .result) (c .loop-i-test .taken)) ∙ sym (c .is .ensures) ∙ c .if-is .taken)
+    (ap (λ x. sameBytes x n) (getD-names ns (c .loop-i .i) (c .index-self-i .result) (c .loop-i-test .taken)) ∙ sym (c .is .ensures) ∙ c .if-is .taken)
 
 pub loop-i-again : need.loop-i-again
 loop-i-again c =
     let ns = c .args .self .now in
     let n = c .args .name .now in
     column-skip (namesOf ns) (c .loop-i .i) n (omega (arith, length-names ns)) (c .loop-i .inv)
-      (ap (λ x. sameBytes x n) (getD-names ns (c .loop-i .i) (c .index-self-i .result) (c .loop-i-test .taken)) ∙ sym (c .is .ensures) ∙ c .if-is .left)
+    (ap (λ x. sameBytes x n) (getD-names ns (c .loop-i .i) (c .index-self-i .result) (c .loop-i-test .taken)) ∙ sym (c .is .ensures) ∙ c .if-is .left)
 
 pub returns : need.returns
 returns c =

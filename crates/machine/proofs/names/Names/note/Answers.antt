@@ -21,7 +21,8 @@ pub returns : need.returns
 returns c =
     let ns = c .args .self .now in
     let n = c .args .name .now in
-    let none : column (namesOf ns) n ≡ 0 = omega arith in
-    (c .add .ensures .names ∙ sym (noted-new (namesOf ns) n none),
-     omega (arith, column-last (namesOf ns) n none, length-names ns, ap (λ x. column x n) (c .add .ensures .names)),
-     omega (arith, length-names ns))
+    let none : column (namesOf ns) n ≡ 0 = omega arith in (
+      c .add .ensures .names ∙ sym (noted-new (namesOf ns) n none),
+      omega (arith, column-last (namesOf ns) n none, length-names ns, ap (λ x. column x n) (c .add .ensures .names)),
+      omega (arith, length-names ns),
+    )

@@ -9,7 +9,7 @@ use Rattle.machine.proofs.Viewed.{count-taken, lines-taken}
 use Rattle.machine.proofs.plan.Plan.byte.Needs as need
 
 pub end-line-requires : need.end-line-requires
-end-line-requires c κs = 
+end-line-requires c κs =
     let p = c .args .self .now in
     let p′ = c .take .last .self in
     let t = c .step .result in

@@ -12,5 +12,5 @@ returns c =
     let p = c .args .self .now in
     c .push .ensures .drawn
     ∙ ap (λ x. drawing (placesOf p ++ End ∷ []) (namesOf (p .names)) x)
-        (take-more-set (p .lasts) (p .lines) (p .count) (omega (arith, p .room))
-         ∙ ap (λ k. lastsOf p ++ k ∷ []) (sym (length-take-le (p .count) (p .list) (omega (arith, p .size)))))
+    (take-more-set (p .lasts) (p .lines) (p .count) (omega (arith, p .room))
+    ∙ ap (λ k. lastsOf p ++ k ∷ []) (sym (length-take-le (p .count) (p .list) (omega (arith, p .size)))))

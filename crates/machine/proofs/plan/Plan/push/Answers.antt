@@ -1,7 +1,7 @@
 use mathlib.Core.Path.{refl, ap}
 use native.Mathlib.Omega.{arith}
 use Rattle.std.proofs.shelf.Lists.{take-more-set}
-use Rattle.machine.specs.Sketches.{Sketch, drawing}
+use Rattle.machine.specs.Sketches.{drawing}
 use Rattle.machine.specs.Views.{lastsOf, namesOf}
 use Rattle.machine.proofs.plan.Plan.push.Needs as need
 

@@ -1,14 +1,11 @@
-use mathlib.Core.Path.{_≡_, sym, ap, subst, _∙_}
+use mathlib.Core.Path.{sym, subst, _∙_}
 use Prim.Native.Nat.{_+_, _<_}
 use native.Mathlib.Omega.{arith}
 use lib.ListN.{length, getD}
-use Rattle.std.specs.Results.{Cases}
-use Rattle.std.specs.Holes.{between}
-use Rattle.std.proofs.shelf.Results.{err-from-errBy, cases-weaker}
-use Rattle.machine.specs.Reading.{turn, readsAs}
-use Rattle.machine.specs.Sketches.{sketch, sketchOf}
+use Rattle.std.proofs.shelf.Results.{err-from-errBy}
+use Rattle.machine.specs.Sketches.{sketch}
 use Rattle.machine.proofs.Counting.{drafted, drafted-all}
-use Rattle.machine.proofs.Following.{Follows, ahead-more, ahead-last, room, line-room, unfit, sketched-on, follows-none, follows-parted, follows-on, Told, told}
+use Rattle.machine.proofs.Following.{Follows, ahead-more, ahead-last, room, line-room, unfit, follows-none, follows-parted, follows-on, Told, told}
 use Rattle.machine.proofs.plan.Plan.read.Needs as need
 use Rattle.machine.proofs.plan.Plan.read.Needs.{then-parts-names, else-parts-names}
 
@@ -45,8 +42,8 @@ loop-i-again c =
     let h = c .in-Continue-byte .ensures tt in
     let high : i < length text = omega arith in
     elim (c .if-parts-names .came) [
-      then-parts-names w ↦ subst (λ k. Follows (drafted text (i + 1)) text k (i + 1) s′ (sketch p′)) (sym (w .from-is)) (follows-parted text from i s s′ p (sketch p′) high (c .loop-i .inv) (h .state) (h .sketch) (sym (c .parts-names .ensures) ∙ w .if-parts-names .taken))
-    | else-parts-names w ↦ subst (λ k. Follows (drafted text (i + 1)) text k (i + 1) s′ (sketch p′)) (sym (w .from-is)) (follows-on text from i s s′ p (sketch p′) high (c .loop-i .inv) (h .state) (h .sketch) (sym (c .parts-names .ensures) ∙ w .if-parts-names .left))
+      | then-parts-names w ↦ subst (λ k. Follows (drafted text (i + 1)) text k (i + 1) s′ (sketch p′)) (sym (w .from-is)) (follows-parted text from i s s′ p (sketch p′) high (c .loop-i .inv) (h .state) (h .sketch) (sym (c .parts-names .ensures) ∙ w .if-parts-names .taken))
+      | else-parts-names w ↦ subst (λ k. Follows (drafted text (i + 1)) text k (i + 1) s′ (sketch p′)) (sym (w .from-is)) (follows-on text from i s s′ p (sketch p′) high (c .loop-i .inv) (h .state) (h .sketch) (sym (c .parts-names .ensures) ∙ w .if-parts-names .left))
     ]
 
 pub byte-requires-2 : need.byte-requires-2

@@ -18,10 +18,13 @@ pub returns-then-not-is-whole : need.returns-then-not-is-whole
 returns-then-not-is-whole c =
     let text = c .args .text .now in
     record {
-      answer = (omega arith, elim (c .then-not-is-whole .either) [
-        inl f ↦ not-whole text (inl (ap closes (sym (c .of-measure .ensures .state)) ∙ sym (c .is-whole .ensures) ∙ f))
-      | inr g ↦ not-whole text (inr (omega (arith, c .of-measure .ensures .lines, g .1)))
-      ]);
+      answer = (
+        omega arith,
+        elim (c .then-not-is-whole .either) [
+          | inl f ↦ not-whole text (inl (ap closes (sym (c .of-measure .ensures .state)) ∙ sym (c .is-whole .ensures) ∙ f))
+          | inr g ↦ not-whole text (inr (omega (arith, c .of-measure .ensures .lines, g .1)))
+        ],
+      );
       once = once text;
     }
 

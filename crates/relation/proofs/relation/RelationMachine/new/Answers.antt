@@ -20,7 +20,7 @@ alone k f s h e d =
 pub returns : need.returns
 unfolding movedOn
 returns c = record {
-  verdict = λ path. marked-none (c .none-3 .result) _ (c .none-3 .ensures .0);
-  marks = λ a. marked-none (c .none-3 .result) _ (c .none-3 .ensures .0);
+  verdict = λ path. marked-none (c .none-empty .result) _ (c .none-empty .ensures .0);
+  marks = λ a. marked-none (c .none-empty .result) _ (c .none-empty .ensures .0);
   stays = λ n. same-action _ _ (tab-same _ _ 32 0 (λ k h. alone k _ _ h (c .none-2 .ensures .0 _) (c .none-2 .ensures .1)));
 }
