@@ -4,7 +4,7 @@ ghost use Rattle.answers.specs.Laws.{Stretched, Join, AnyCut, Whole, AnyCutWho
 ghost use Rattle.answers.specs.Rule.{Accepted, Past};
 ghost use Rattle.answers.specs.Exact.{Exactly};
 ghost use Rattle.answers.specs.Listing.{Listing};
-ghost use Rattle.answers.specs.Examples.{Files, Pieces};
+ghost use Rattle.answers.specs.Examples.{Pieces};
 ghost use Rattle.answers.specs.Paths.{EveryVerdict};
 
 /// For every machine that keeps its laws: a part of a file, cut anywhere, has the content of its two parts joined;
@@ -26,9 +26,8 @@ pub fn content_rule()
     ensures past { λ _. ⌜ Past ⌝ }
 {}
 
-/// Some small files and pieces worked through, the pieces by a machine whose actions are paths.
-pub fn worked_files()
-    ensures files { λ _. ⌜ Files ⌝ }
+/// Some small pieces worked through, by a machine whose actions are paths.
+pub fn worked_pieces()
     ensures pieces { λ _. ⌜ Pieces ⌝ }
     ensures machine { λ _. ⌜ EveryVerdict ⌝ }
 {}

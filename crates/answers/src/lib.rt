@@ -6,5 +6,5 @@ pub mod matches;
 pub use fault::Fault;
 pub use laws::content_rule;
 pub use laws::pieces_join;
-pub use laws::worked_files;
+pub use laws::worked_pieces;
 pub use matches::Match;

@@ -1,12 +1,12 @@
 -- What is known once every question is answered yes.
 use mathlib.Core.Path.{_≡_, refl, sym, ap, subst, _∙_}
 use mathlib.Core.Logic.{⊎-elim}
-use mathlib.Core.Bool.{Bool, true, false, cond, _&&_}
-use mathlib.Core.List.{List, [], _∷_, _++_}
-use Prim.Native.Nat.{ℕ, _+_, _-_, _<_, _≤_}
+use mathlib.Core.Bool.{Bool, true, false, _&&_}
+use mathlib.Core.List.{List}
+use Prim.Native.Nat.{ℕ, _+_, _<_, _≤_}
 use native.Mathlib.Omega.{arith}
 use lib.Dec.{eqb, leb, ltb}
-use lib.ListN.{length, getD, set, take, drop}
+use lib.ListN.{length, getD, set}
 use Rattle.std.specs.declared.option.Option.{Option}
 use Rattle.std.specs.declared.option.Option.the-variants.{Some, None}
 use Rattle.std.proofs.shelf.Tests.{eqb-true, leb-true, ltb-true, and-parts, cases-eq}
@@ -126,7 +126,7 @@ placed-more size used new n ps p h up old here k less =
     ⊎-elim
     (λ e. subst (λ x. InPlace size new x) (sym (ap (λ j. getD (set ps n p) j no-piece) e ∙ getD-set-same ps n p no-piece h)) here)
     (λ ne.
-      let o = old k (omega arith) in
-      let e = getD-set-other ps n k p no-piece ne in
-      subst (λ x. InPlace size new x) (sym e) (o .0, o .1, omega arith, o .3, o .4))
+    let o = old k (omega arith) in
+    let e = getD-set-other ps n k p no-piece ne in
+    subst (λ x. InPlace size new x) (sym e) (o .0, o .1, omega arith, o .3, o .4))
     (cases-eq k n)

@@ -5,7 +5,7 @@ use mathlib.Core.List.{List, [], _∷_}
 use Prim.Native.Nat.{ℕ, _+_, _-_, _<_, _≤_}
 use native.Mathlib.Omega.{arith}
 use lib.Dec.{eqb}
-use lib.ListN.{length, getD, take, drop}
+use lib.ListN.{length, take, drop}
 use Rattle.std.specs.declared.option.Option.{Option}
 use Rattle.std.specs.declared.option.Option.the-variants.{Some, None}
 use Rattle.std.specs.declared.result.Result.{Result}
@@ -20,8 +20,9 @@ use Rattle.rows.specs.declared.row.Row.{Row}
 use Rattle.rows.specs.Stretches.{joined-ends, last-put}
 use Rattle.rows.specs.Places.{stored, paired}
 use Rattle.rows.specs.declared.part.Kept.{Kept}
-use Rattle.rows.specs.Lists.{RowRule, held, ends-of, kept-of, rows-of, actions-of, Written, Leaves}
+use Rattle.rows.specs.Lists.{RowRule, held, ends-of, rows-of, actions-of, Written, Leaves}
 use Rattle.rows.specs.Pieces.{Content}
+use Rattle.rows.proofs.Pairs.{take-paired}
 use Rattle.answers.specs.declared.fault.Fault.{Fault}
 use Rattle.answers.specs.declared.matches.Match.{Match}
 use Rattle.answers.specs.Finish.{finish}
@@ -29,11 +30,10 @@ use Rattle.job.specs.declared.answer.Answer.{Answer}
 use Rattle.job.specs.declared.piece.Piece.{Piece}
 use Rattle.job.specs.declared.job.Job.{Job}
 use Rattle.job.specs.Pieces.{InPlace, no-piece}
-use Rattle.job.specs.State.{State, World, world, seen, nth-piece, joined-marks, finished, all-inside, ruled, allowed, asked-open, asked-read, asked-join, asked-whole, asked-matches, opened, Open-says, with-kept, Turns, Refused, Unchanged, Accepted, Ended, Answer-says, Finish-says}
+use Rattle.job.specs.State.{State, World, world, seen, nth-piece, finished, all-inside, allowed, asked-open, asked-read, asked-join, asked-whole, asked-matches, opened, Open-says, with-kept, Turns, Refused, Unchanged, Accepted, Ended, Answer-says, Finish-says}
 use Rattle.job.proofs.Asked.{turns-some, read-free, join-free, finish-free, whole-later}
 use Rattle.job.proofs.Ruled.{rule-of}
 use Rattle.job.proofs.Splices.{part-front}
-use Rattle.job.proofs.Held.{take-paired}
 
 module _ {X : Type 0} where
   pub allowed-none : (o : Option Refusal) (x y : X) (r : Result X Refusal) → r ≡ allowed o x → r ≡ Ok y → (o ≡ None) × (y ≡ x)
@@ -221,7 +221,7 @@ finish-told m file j rs ps piece p n q e f in-rows in-acts most =
         let lr = length-take-le n rs in-rows in
         let lp = length-take-le n ps in-acts in
         let es : take k (paired (drop at (take n rs)) (drop at (take n ps))) ≡ take k (paired (drop at rs) (drop at ps)) =
-          take-paired k (drop at (take n rs)) (drop at (take n ps)) ∙ ap (λ xs. paired xs (take k (drop at (take n ps)))) rows-are ∙ ap (paired (take k (drop at rs))) acts-are ∙ sym (take-paired k (drop at rs) (drop at ps)) in
+        sym (take-paired k (drop at (take n rs)) (drop at (take n ps))) ∙ ap (λ xs. paired xs (take k (drop at (take n ps)))) rows-are ∙ ap (paired (take k (drop at rs))) acts-are ∙ take-paired k (drop at rs) (drop at ps) in
         record {
           none = none;
           is = refl;

@@ -2,7 +2,7 @@
 use mathlib.Core.Path.{_≡_, refl, sym, ap, subst, _∙_}
 use mathlib.Core.Logic.{⊎-elim}
 use mathlib.Core.List.{List, [], _∷_, _++_, map}
-use Prim.Native.Nat.{ℕ, _+_, _-_, _<_, _≤_}
+use Prim.Native.Nat.{ℕ, _<_, _≤_}
 use native.Mathlib.Omega.{arith}
 use lib.ListN.{length, getD, set, take, drop}
 use Rattle.std.specs.declared.option.Option.{Option}
@@ -19,7 +19,8 @@ use Rattle.rows.specs.declared.row.Row.{Row}
 use Rattle.rows.specs.Pieces.{Content}
 use Rattle.rows.specs.Stretches.{content, joined-ends, joined-at, last-put}
 use Rattle.rows.specs.Places.{stored, paired}
-use Rattle.rows.specs.Lists.{kept-of, rows-of, actions-of, splice, Written}
+use Rattle.rows.specs.Lists.{kept-of, rows-of, actions-of}
+use Rattle.rows.proofs.Pairs.{take-paired}
 use Rattle.answers.specs.declared.fault.Fault.{Fault}
 use Rattle.answers.specs.declared.matches.Match.{Match}
 use Rattle.answers.specs.Own.{own}
@@ -32,15 +33,14 @@ use Rattle.job.specs.declared.piece.Piece.{Piece}
 use Rattle.job.specs.declared.answer.Answer.{Answer}
 use Rattle.job.specs.declared.answer.Answer.the-variants as answer
 use Rattle.job.specs.declared.steps.Reply.{Reply}
-use Rattle.job.specs.declared.steps.Reply.the-variants.{Made, Answered}
+use Rattle.job.specs.declared.steps.Reply.the-variants.{Answered}
 use Rattle.job.specs.declared.steps.Step.{Step}
 use Rattle.job.specs.Pieces.{no-piece}
-use Rattle.job.specs.Contents.{mapped}
 use Rattle.job.specs.State.{State, World, nth-piece, marks-of, content-at, joined-marks, joined-content, finished, new-piece, with-piece, asked-read, asked-join, asked-matches, asked-finish, Turns, Accepted, Refused, Read-says, Join-says, Finish-says, Ended}
-use Rattle.job.specs.Runs.{Stage, begun, Does, reads, joins, finishes, Chain, none, more, Faithfully, piece-rows, piece-actions, AsRead, Lies, Alike, Sound, Run}
-use Rattle.job.proofs.Mapped.{content-mapped, joined-mapped, last-mapped, finish-mapped, plain-keeps}
+use Rattle.job.specs.Runs.{Stage, begun, Does, reads, joins, finishes, Chain, none, more, Faithfully, piece-actions, AsRead, Lies, Alike, Sound, Run}
+use Rattle.job.proofs.Mapped.{mapped, content-mapped, joined-mapped, last-mapped, finish-mapped, plain-keeps}
 use Rattle.job.proofs.Splices.{splice-before, splice-here}
-use Rattle.job.proofs.Held.{take-paired, paired-of, rows-mapped, acts-mapped}
+use Rattle.job.proofs.Held.{paired-of, rows-mapped, acts-mapped}
 use Rattle.job.proofs.Asked.{read-free, join-free, finish-free}
 
 module _ {A P : Type 0} (m : Model A P) (file : List ℕ) where
@@ -54,10 +54,10 @@ module _ {A P : Type 0} (m : Model A P) (file : List ℕ) where
       let c = content file m (p .from) (p .to) in
       let n = p .part .kept .rows in
       let rows-are : take n (paired (drop (p .part .at) (w .rows)) (drop (p .part .at) (w .actions))) ≡ mapped (m .plain) c .rows =
-        take-paired n (drop (p .part .at) (w .rows)) (drop (p .part .at) (w .actions))
-        ∙ ap (λ xs. paired xs (piece-actions w p)) (r .rows ∙ sym (rows-mapped (m .plain) (c .rows)))
-        ∙ ap (paired (rows-of (mapped (m .plain) c))) (r .actions ∙ sym (acts-mapped (m .plain) (c .rows)))
-        ∙ paired-of (mapped (m .plain) c .rows) in
+      sym (take-paired n (drop (p .part .at) (w .rows)) (drop (p .part .at) (w .actions)))
+      ∙ ap (λ xs. paired xs (piece-actions w p)) (r .rows ∙ sym (rows-mapped (m .plain) (c .rows)))
+      ∙ ap (paired (rows-of (mapped (m .plain) c))) (r .actions ∙ sym (acts-mapped (m .plain) (c .rows)))
+      ∙ paired-of (mapped (m .plain) c .rows) in
       let fault-is : p .part .kept .fault ≡ c .fault = ap (λ k. k .fault) (r .kept) in
       (λ i. record { rows = rows-are i; fault = fault-is i })
 
@@ -79,15 +79,15 @@ module _ {A P : Type 0} (m : Model A P) (file : List ℕ) where
       marks = marks-are;
       kept = ap kept-of is ∙ ap (λ n. record { rows = n; fault = d .fault }) (length-map (d .rows) _);
       rows =
-        ap (λ xs. take (length (c .rows)) (drop (w .job .used) xs)) (acc .rows .is)
-        ∙ splice-here (w .job .used) (rows-of c) (acc .rows .free) (w .rows) (length (c .rows)) over-rows (length-map (c .rows) _)
-        ∙ ap rows-of is
-        ∙ rows-mapped (m .plain) (d .rows);
+          ap (λ xs. take (length (c .rows)) (drop (w .job .used) xs)) (acc .rows .is)
+          ∙ splice-here (w .job .used) (rows-of c) (acc .rows .free) (w .rows) (length (c .rows)) over-rows (length-map (c .rows) _)
+          ∙ ap rows-of is
+          ∙ rows-mapped (m .plain) (d .rows);
       actions =
-        ap (λ xs. take (length (c .rows)) (drop (w .job .used) xs)) (acc .actions .is)
-        ∙ splice-here (w .job .used) (actions-of c) (acc .actions .free) (w .actions) (length (c .rows)) over-acts (length-map (c .rows) _)
-        ∙ ap actions-of is
-        ∙ acts-mapped (m .plain) (d .rows);
+          ap (λ xs. take (length (c .rows)) (drop (w .job .used) xs)) (acc .actions .is)
+          ∙ splice-here (w .job .used) (actions-of c) (acc .actions .free) (w .actions) (length (c .rows)) over-acts (length-map (c .rows) _)
+          ∙ ap actions-of is
+          ∙ acts-mapped (m .plain) (d .rows);
     }
       where
         d : Content A
@@ -108,9 +108,9 @@ module _ {A P : Type 0} (m : Model A P) (file : List ℕ) where
         ⊎-elim
         (λ less. subst Q (sym (getD-append-left (w .job .pieces) (next ∷ []) no-piece k less)) (old k less))
         (λ past.
-          let l = length-push (w .job .pieces) next in
-          let at : length (w .job .pieces) ≡ k = omega arith in
-          subst Q (sym (getD-push (w .job .pieces) next no-piece k at)) new)
+        let l = length-push (w .job .pieces) next in
+        let at : length (w .job .pieces) ≡ k = omega arith in
+        subst Q (sym (getD-push (w .job .pieces) next no-piece k at)) new)
         (cases-lt k (length (w .job .pieces)))
 
     sound-accepted : Sound m file v
@@ -144,20 +144,21 @@ module _ {A P : Type 0} (m : Model A P) (file : List ℕ) where
         let joined = join m (laws .assoc) file (l .from) (l .to) (k .to) ol (omega arith) end in
         let ml : marks-of l ≡ sl = al .marks in
         let mk : marks-of k ≡ scanned file (l .to) (k .to) = ak .marks ∙ sym sk in
-        let hk : content-at w k ≡ mapped (m .plain) (content file m (l .to) (k .to)) = holds w k ak ∙ ap (mapped (m .plain)) (sym ck) in
-        (ap (λ x. joined-ends x (marks-of k)) ml ∙ ap (joined-ends sl) mk ∙ sym (joined .marks),
+        let hk : content-at w k ≡ mapped (m .plain) (content file m (l .to) (k .to)) = holds w k ak ∙ ap (mapped (m .plain)) (sym ck) in (
+          ap (λ x. joined-ends x (marks-of k)) ml ∙ ap (joined-ends sl) mk ∙ sym (joined .marks),
           ap (λ x. joined-at file (stored m) x (marks-of k) (content-at w l) (content-at w k)) ml
-          ∙ ap (λ x. joined-at file (stored m) sl x (content-at w l) (content-at w k)) mk
-          ∙ ap (λ x. joined-at file (stored m) sl (scanned file (l .to) (k .to)) x (content-at w k)) (holds w l al)
-          ∙ ap (joined-at file (stored m) sl (scanned file (l .to) (k .to)) (mapped (m .plain) cl)) hk
-          ∙ joined-mapped (m .plain) m (stored m) (plain-keeps m laws) file sl (scanned file (l .to) (k .to)) cl (content file m (l .to) (k .to))
-          ∙ ap (mapped (m .plain)) (sym (joined .contents)))
+              ∙ ap (λ x. joined-at file (stored m) sl x (content-at w l) (content-at w k)) mk
+              ∙ ap (λ x. joined-at file (stored m) sl (scanned file (l .to) (k .to)) x (content-at w k)) (holds w l al)
+              ∙ ap (joined-at file (stored m) sl (scanned file (l .to) (k .to)) (mapped (m .plain) cl)) hk
+              ∙ joined-mapped (m .plain) m (stored m) (plain-keeps m laws) file sl (scanned file (l .to) (k .to)) cl (content file m (l .to) (k .to))
+              ∙ ap (mapped (m .plain)) (sym (joined .contents)),
+        )
 
     sound-join : (w : World P) (left right : ℕ) (r : Result ℕ Refusal) (v : World P) → Sound m file w → Join-says file m w left right r v → Sound m file v
     sound-join w left right r v sound says = go (asked-join file w left right) refl says
       where
         go : (o : Option Refusal) → asked-join file w left right ≡ o →
-          Turns o (λ why. Refused why w r v) (Accepted w (nth-piece (w .job) left .from) (nth-piece (w .job) right .to) (joined-marks (nth-piece (w .job) left) (nth-piece (w .job) right)) (joined-content file m w (nth-piece (w .job) left) (nth-piece (w .job) right)) r v) → Sound m file v
+            Turns o (λ why. Refused why w r v) (Accepted w (nth-piece (w .job) left .from) (nth-piece (w .job) right .to) (joined-marks (nth-piece (w .job) left) (nth-piece (w .job) right)) (joined-content file m w (nth-piece (w .job) left) (nth-piece (w .job) right)) r v) → Sound m file v
         go (Some why) q t = subst (Sound m file) (sym (t .same)) sound
         go None q t =
             let free = join-free file w left right q in
@@ -187,7 +188,7 @@ module _ {A P : Type 0} (m : Model A P) (file : List ℕ) where
     finish-own w piece ms a ns sound says = go (asked-finish file m w piece (length ms)) refl says
       where
         go : (o : Option Refusal) → asked-finish file m w piece (length ms) ≡ o →
-          Turns o (λ why. Refused why ms (Ok a) ns) (Ended (finished file m w (nth-piece (w .job) piece)) ms (Ok a) ns) → Ended (own (m .verdict) file) ms (Ok a) ns
+            Turns o (λ why. Refused why ms (Ok a) ns) (Ended (finished file m w (nth-piece (w .job) piece)) ms (Ok a) ns) → Ended (own (m .verdict) file) ms (Ok a) ns
         go (Some why) q t = absurd (let x = t .reply in let z : _≡_ {A = ℕ} 0 1 = cc in omega arith)
         go None q t =
             let free = finish-free file w piece (asked-matches (finished file m w (nth-piece (w .job) piece)) (length ms)) q .0 in
@@ -196,9 +197,10 @@ module _ {A P : Type 0} (m : Model A P) (file : List ℕ) where
     -- matches are told exactly if the file follows the rule
     follows : (o : Result (List Match) Fault) (ms : List Match) (a : Answer) (ns : List Match) → Iff ((xs : List Match) × (o ≡ Ok xs)) (WellFormed file) → Ended o ms (Ok a) ns → Iff ((n : ℕ) × (a ≡ answer.Matches n)) (WellFormed file)
     follows (Ok xs) ms a ns iff e = ((λ z. iff .0 (xs, refl)), (λ z. (length xs, (let h = e .0 in cc))))
-    follows (Err f) ms a ns iff e =
-        ((λ z. absurd (let h = e .0 in let q = z .1 in let y : _≡_ {A = ℕ} 0 1 = cc in omega arith)),
-          (λ z. absurd (let x = iff .1 z in let h = x .1 in let y : _≡_ {A = ℕ} 0 1 = cc in omega arith)))
+    follows (Err f) ms a ns iff e = (
+      (λ z. absurd (let h = e .0 in let q = z .1 in let y : _≡_ {A = ℕ} 0 1 = cc in omega arith)),
+      (λ z. absurd (let x = iff .1 z in let h = x .1 in let y : _≡_ {A = ℕ} 0 1 = cc in omega arith)),
+    )
 
     sound-step : (w : Stage P) (s : Step) (v : Stage P) → Sound m file (w .held) → Does m file w s v → Sound m file (v .held)
     sound-step w s v sound (reads {from = from} {to = to} {r = r} {v = u} says) = sound-read (w .held) from to r u sound says

@@ -10,7 +10,6 @@ use Rattle.std.specs.declared.option.Option.{Option}
 use Rattle.std.specs.declared.option.Option.the-variants.{Some, None}
 use Rattle.std.specs.declared.result.Result.{Result}
 use Rattle.std.specs.declared.result.Result.the-variants.{Ok, Err}
-use Rattle.std.specs.shelf.Text.{sameBytes}
 use Rattle.std.proofs.shelf.Lists.{map-append}
 use Rattle.tags.specs.declared.tag.TagKind.{TagKind}
 use Rattle.tags.specs.declared.tag.TagKind.the-variants.{Start, Empty, End}
@@ -18,13 +17,18 @@ use Rattle.tags.specs.declared.tag.TagFault.{TagFault}
 use Rattle.tags.specs.Reads.{tagAt}
 use Rattle.machine.specs.Model.{Model, Lawful}
 use Rattle.rows.specs.declared.row.RowKind.the-variants.{Close, Open, Done}
-use Rattle.rows.specs.declared.row.Row.{Row}
 use Rattle.rows.specs.declared.row.PieceFault.{PieceFault}
-use Rattle.rows.specs.Pieces.{Entry, Taken, Content, name, base, close-last, is-close, closes, under, run, seal, fault-after, put}
-use Rattle.rows.specs.Stretches.{action-of, made, one, eval-from, nothing, stretches, content, joined-at, last-put}
+use Rattle.rows.specs.Pieces.{Entry, Taken, Content, base, close-last, closes, under, run, seal, put}
+use Rattle.rows.specs.Stretches.{made, one, eval-from, nothing, stretches, content, joined-at, last-put}
 use Rattle.rows.specs.Places.{stored}
 use Rattle.answers.specs.Finish.{first-close, row-matches, finish}
-use Rattle.job.specs.Contents.{entry-by, mapped}
+
+abbrev pub entry-by : {A B : Type 0} → (A → B) → Entry A → Entry B
+entry-by h e = record { row = e .row; act = h (e .act) }
+
+-- a content with h done to each action
+abbrev pub mapped : {A B : Type 0} → (A → B) → Content A → Content B
+mapped h c = record { rows = map (entry-by h) (c .rows); fault = c .fault }
 
 module _ {A B : Type 0} (h : A → B) where
   abbrev rows-by : List (Entry A) → List (Entry B)

@@ -1,11 +1,10 @@
 -- Rows that keep the row rule, one by one.
-use mathlib.Core.Path.{_≡_, refl, sym, ap, subst, _∙_}
-use mathlib.Core.Bool.{Bool, true, false, _&&_}
+use mathlib.Core.Path.{_≡_, ap, subst, _∙_}
+use mathlib.Core.Bool.{true, _&&_}
 use mathlib.Core.List.{List, [], _∷_}
 use Prim.Native.Nat.{ℕ, zero, suc, _+_, _<_, _≤_}
 use native.Mathlib.Omega.{arith}
-use lib.Dec.{leb}
-use lib.ListN.{length, getD, take, drop}
+use lib.ListN.{length, take, drop}
 use Rattle.std.proofs.shelf.Tests.{leb-true, and-parts}
 use Rattle.std.proofs.shelf.Lists.{drop-more, drop-all, getD-drop, getD-take, length-take, length-drop}
 use Rattle.rows.specs.declared.row.Row.{Row}

@@ -1,5 +1,5 @@
 -- Parts of a list into which others were put, and of a front.
-use mathlib.Core.Path.{_≡_, refl, sym, ap, _∙_}
+use mathlib.Core.Path.{_≡_, sym, ap, _∙_}
 use mathlib.Core.List.{List, _++_, append-assoc}
 use Prim.Native.Nat.{ℕ, _+_, _≤_}
 use native.Mathlib.Omega.{arith}
@@ -25,5 +25,5 @@ module _ {X : Type 0} where
   pub splice-here : (n : ℕ) (made free old : List X) (j : ℕ) → n ≤ length old → length made ≡ j → take j (drop n (splice n (made ++ free) old)) ≡ made
   splice-here n made free old j h e =
       ap (take j) (drop-at (take n old) _ n (length-take-le n old h)
-        ∙ append-assoc made free (drop (n + length (made ++ free)) old))
+      ∙ append-assoc made free (drop (n + length (made ++ free)) old))
       ∙ take-at made (free ++ drop (n + length (made ++ free)) old) j e

@@ -1,4 +1,3 @@
 pub mod Pieces
-pub mod Contents
 pub mod State
 pub mod Runs

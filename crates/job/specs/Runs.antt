@@ -4,11 +4,11 @@ use mathlib.Core.List.{List, [], _∷_, map}
 use Prim.Native.Nat.{ℕ, _+_, _<_, _≤_}
 use lib.ListN.{length, take, drop}
 use Rattle.std.specs.declared.result.Result.{Result}
-use Rattle.std.specs.declared.result.Result.the-variants.{Ok, Err}
+use Rattle.std.specs.declared.result.Result.the-variants.{Ok}
 use Rattle.tags.specs.Marks.{scanned}
 use Rattle.grammar.specs.Laws.{Iff}
 use Rattle.machine.specs.declared.refusal.Refusal.{Refusal}
-use Rattle.machine.specs.Model.{Model, Lawful}
+use Rattle.machine.specs.Model.{Model}
 use Rattle.rows.specs.declared.row.Row.{Row}
 use Rattle.rows.specs.Stretches.{content}
 use Rattle.rows.specs.Lists.{kept-of, rows-of, actions-of}
@@ -24,7 +24,6 @@ use Rattle.job.specs.declared.steps.Reply.{Reply}
 use Rattle.job.specs.declared.steps.Reply.the-variants.{Made, Answered}
 use Rattle.job.specs.declared.steps.Step.{Step}
 use Rattle.job.specs.declared.job.Job.{Job}
-use Rattle.job.specs.Contents.{mapped}
 use Rattle.job.specs.State.{World, world, opened, nth-piece, marks-of, asked-open, Turns, Refused, Read-says, Join-says, Finish-says, Ended}
 
 -- all that a run goes on with
@@ -45,11 +44,11 @@ answered c r = record { call = c; reply = r }
 -- what a step does is what its call's own definition says
 pub data Does {A P : Type 0} (m : Model A P) (file : List ℕ) (w : Stage P) : Step → Stage P → Type 0 where
   reads : {from to : ℕ} {r : Result ℕ Refusal} {v : World P} → Read-says file m (w .held) from to r v →
-    Does m file w (answered (Read from to) (Made r)) (record { held = v; found = w .found })
+      Does m file w (answered (Read from to) (Made r)) (record { held = v; found = w .found })
   joins : {left right : ℕ} {r : Result ℕ Refusal} {v : World P} → Join-says file m (w .held) left right r v →
-    Does m file w (answered (Join left right) (Made r)) (record { held = v; found = w .found })
+      Does m file w (answered (Join left right) (Made r)) (record { held = v; found = w .found })
   finishes : {piece : ℕ} {r : Result Answer Refusal} {ns : List Match} → Finish-says file m (w .held) piece (w .found) r ns →
-    Does m file w (answered (Finish piece) (Answered r)) (record { held = w .held; found = ns })
+      Does m file w (answered (Finish piece) (Answered r)) (record { held = w .held; found = ns })
 
 -- steps one after another
 pub data Chain {S X : Type 0} (R : S → X → S → Type 0) : S → List X → S → Type 0 where

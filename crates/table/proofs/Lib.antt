@@ -6,4 +6,3 @@ pub mod Arise
 pub mod Walks
 pub mod Telling
 pub mod Making
-pub mod Worked

@@ -3,4 +3,3 @@ pub mod Arising
 pub mod Filling
 pub mod Tables
 pub mod Making
-pub mod Examples

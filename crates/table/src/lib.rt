@@ -12,5 +12,4 @@ pub mod tabled;
 
 pub use action::TableAction;
 pub use laws::closure_finds;
-pub use laws::examples;
 pub use table::TableMachine;

@@ -1,4 +1,3 @@
-use mathlib.Core.Path.{refl}
 use Rattle.grammar.proofs.Exactly.{tags-exact, faults-exact, causes-apart}
 use Rattle.grammar.proofs.tag_grammar.Needs as need
 
@@ -7,5 +6,4 @@ returns c = record {
   tags = tags-exact;
   faults = faults-exact;
   causes = causes-apart;
-  examples = (refl, refl, refl, refl, refl, refl, refl, refl, refl, refl, refl);
 }

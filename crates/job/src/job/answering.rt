@@ -1,6 +1,6 @@
 //! What a piece over the whole file answers.
 ghost use mathlib.Core.Path.{_≡_};
-ghost use Prim.Native.Nat.{ℕ, _+_, _≤_, _<_};
+ghost use Prim.Native.Nat.{_+_, _≤_, _<_};
 ghost use lib.ListN.{length};
 ghost use Rattle.rows.specs.Stretches.{last-put};
 ghost use Rattle.rows.specs.Places.{stored};
@@ -18,7 +18,14 @@ use rows::Row;
 use rows::part::Part;
 
 /// The file's fault, or the number of its matches, which are written from the match list's start.
-pub(super) fn answer<M: Machine>(m: &M, file: &[u8], rows: &[Row], actions: &[M::Plain], matches: &mut [Match], part: Part) -> Result<Answer, Refusal>
+pub(super) fn answer<M: Machine>(
+    m: &M,
+    file: &[u8],
+    rows: &[Row],
+    actions: &[M::Plain],
+    matches: &mut [Match],
+    part: Part,
+) -> Result<Answer, Refusal>
     requires bytes { ⌜ length (now file) < 4294967296 ⌝ }
     requires sizes { ⌜ length (now rows) ≡ length (now actions) ⌝ }
     requires within { ⌜ part .at + part .kept .rows ≤ length (now rows) ⌝ }

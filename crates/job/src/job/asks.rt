@@ -1,7 +1,6 @@
 //! The questions that a call asks, in their order.
 ghost use mathlib.Core.Path.{_≡_};
-ghost use mathlib.Core.Bool.{_&&_};
-ghost use Prim.Native.Nat.{ℕ, _+_, _-_, _<_, _≤_};
+ghost use Prim.Native.Nat.{_+_, _-_, _<_, _≤_};
 ghost use lib.ListN.{length};
 ghost use Rattle.std.specs.declared.option.Option.the-variants.{None};
 ghost use Rattle.tags.specs.Marks.{scanned};
@@ -64,7 +63,14 @@ impl Job {
     }
 
     /// Asks what a read asks, and tells the marks of the bytes that it names.
-    pub(super) fn ask_read<P>(&self, file: &[u8], rows: &[Row], actions: &[P], from: usize, to: usize) -> Result<(usize, usize, usize), Refusal>
+    pub(super) fn ask_read<P>(
+        &self,
+        file: &[u8],
+        rows: &[Row],
+        actions: &[P],
+        from: usize,
+        to: usize,
+    ) -> Result<(usize, usize, usize), Refusal>
         ensures { λ r. ⌜ r ≡ allowed (asked-read (now (file .entry)) (world (now (self .entry)) (now (rows .entry)) (now (actions .entry))) from to) (scanned (now (file .entry)) from to) ⌝ }
     {
         if let Some(why) = self.ask_lists(file.len(), rows.len(), actions.len()) {
@@ -81,7 +87,14 @@ impl Job {
     }
 
     /// Asks what a join asks, and tells the two pieces.
-    pub(super) fn ask_join<P>(&self, file: &[u8], rows: &[Row], actions: &[P], left: usize, right: usize) -> Result<(Piece, Piece), Refusal>
+    pub(super) fn ask_join<P>(
+        &self,
+        file: &[u8],
+        rows: &[Row],
+        actions: &[P],
+        left: usize,
+        right: usize,
+    ) -> Result<(Piece, Piece), Refusal>
         ensures { λ r. ⌜ r ≡ allowed (asked-join (now (file .entry)) (world (now (self .entry)) (now (rows .entry)) (now (actions .entry))) left right) (nth-piece (seen (now (self .entry))) left, nth-piece (seen (now (self .entry))) right) ⌝ }
     {
         if let Some(why) = self.ask_lists(file.len(), rows.len(), actions.len()) {
@@ -105,7 +118,13 @@ impl Job {
     }
 
     /// Asks what a finish asks before it looks at the rows, and tells the piece.
-    pub(super) fn ask_finish<P>(&self, file: &[u8], rows: &[Row], actions: &[P], piece: usize) -> Result<Piece, Refusal>
+    pub(super) fn ask_finish<P>(
+        &self,
+        file: &[u8],
+        rows: &[Row],
+        actions: &[P],
+        piece: usize,
+    ) -> Result<Piece, Refusal>
         ensures { λ r. ⌜ r ≡ allowed (asked-whole (now (file .entry)) (world (now (self .entry)) (now (rows .entry)) (now (actions .entry))) piece None) (nth-piece (seen (now (self .entry))) piece) ⌝ }
     {
         if let Some(why) = self.ask_lists(file.len(), rows.len(), actions.len()) {

@@ -1,7 +1,6 @@
 //! The calls that make pieces.
 ghost use mathlib.Core.Path.{_≡_};
-ghost use mathlib.Core.List.{[], _∷_, _++_};
-ghost use Prim.Native.Nat.{ℕ, _+_, _-_, _<_, _≤_, _^_};
+ghost use Prim.Native.Nat.{_+_, _<_, _^_};
 ghost use Rattle.rows.specs.Stretches.{joined-ends};
 ghost use Rattle.rows.specs.Lists.{ends-of};
 ghost use Rattle.job.specs.State.{world, Unchanged, Read-says, Join-says, Finish-says};
@@ -32,7 +31,15 @@ fn joined_ends(left: Part, right: Part) -> (usize, usize, usize)
 
 impl Job {
     /// Makes a piece of the bytes from `from` up to but without `to`, and tells its number.
-    pub fn read<M: Machine>(&mut self, m: &M, file: &[u8], rows: &mut [Row], actions: &mut [M::Plain], from: usize, to: usize) -> Result<usize, Refusal>
+    pub fn read<M: Machine>(
+        &mut self,
+        m: &M,
+        file: &[u8],
+        rows: &mut [Row],
+        actions: &mut [M::Plain],
+        from: usize,
+        to: usize,
+    ) -> Result<usize, Refusal>
         ensures says { λ r. ⌜ Read-says (now (file .entry)) (model (now (m .entry))) (world (now (self .entry)) (now (rows .entry)) (now (actions .entry))) from to r (world (now (self .exit)) (now (rows .exit)) (now (actions .exit))) ⌝ }
         ensures kept { λ r. ⌜ Unchanged r (now (self .entry)) (now (self .exit)) ⌝ }
     {
@@ -42,7 +49,15 @@ impl Job {
     }
 
     /// Makes a piece of two that lie side by side, and leaves them there. Tells its number.
-    pub fn join<M: Machine>(&mut self, m: &M, file: &[u8], rows: &mut [Row], actions: &mut [M::Plain], left: usize, right: usize) -> Result<usize, Refusal>
+    pub fn join<M: Machine>(
+        &mut self,
+        m: &M,
+        file: &[u8],
+        rows: &mut [Row],
+        actions: &mut [M::Plain],
+        left: usize,
+        right: usize,
+    ) -> Result<usize, Refusal>
         ensures says { λ r. ⌜ Join-says (now (file .entry)) (model (now (m .entry))) (world (now (self .entry)) (now (rows .entry)) (now (actions .entry))) left right r (world (now (self .exit)) (now (rows .exit)) (now (actions .exit))) ⌝ }
         ensures kept { λ r. ⌜ Unchanged r (now (self .entry)) (now (self .exit)) ⌝ }
     {
@@ -53,7 +68,15 @@ impl Job {
     }
 
     /// What the file answers, from a piece that runs over all of it. Matches are written from the match list's start.
-    pub fn finish<M: Machine>(&self, m: &M, file: &[u8], rows: &[Row], actions: &[M::Plain], matches: &mut [Match], piece: usize) -> Result<Answer, Refusal>
+    pub fn finish<M: Machine>(
+        &self,
+        m: &M,
+        file: &[u8],
+        rows: &[Row],
+        actions: &[M::Plain],
+        matches: &mut [Match],
+        piece: usize,
+    ) -> Result<Answer, Refusal>
         ensures { λ r. ⌜ Finish-says (now (file .entry)) (model (now (m .entry))) (world (now (self .entry)) (now (rows .entry)) (now (actions .entry))) piece (now (matches .entry)) r (now (matches .exit)) ⌝ }
     {
         let p = self.ask_finish(file, rows, actions, piece)?;

@@ -1,10 +1,9 @@
 //! A job and its pieces.
 ghost use mathlib.Core.Path.{_≡_};
-ghost use mathlib.Core.List.{[], _∷_, _++_};
-ghost use Prim.Native.Nat.{ℕ, _+_, _-_, _<_, _≤_, _^_};
+ghost use Prim.Native.Nat.{_+_, _-_, _<_, _≤_, _^_};
 ghost use lib.ListN.{length};
 ghost use Rattle.job.specs.Pieces.{InPlace};
-ghost use Rattle.job.specs.State.{State, seen, opened, nth-piece, with-kept, Open-says, Unchanged};
+ghost use Rattle.job.specs.State.{seen, opened, nth-piece, with-kept, Open-says, Unchanged};
 use crate::job::Job;
 use crate::piece::Piece;
 use machine::Refusal;
@@ -19,8 +18,26 @@ impl Job {
     pub fn new() -> Job
         ensures { λ r. ⌜ seen r ≡ opened 0 ⌝ }
     {
-        let part = Part { first: 0, last: 0, marks: 0, at: 0, kept: Kept { rows: 0, fault: None } };
-        Job { size: 0, pieces: [Piece { from: 0, to: 0, part }; 128], made: 0, used: 0 }
+        let part = Part {
+            first: 0,
+            last: 0,
+            marks: 0,
+            at: 0,
+            kept: Kept {
+                rows: 0,
+                fault: None,
+            },
+        };
+        Job {
+            size: 0,
+            pieces: [Piece {
+                from: 0,
+                to: 0,
+                part,
+            }; 128],
+            made: 0,
+            used: 0,
+        }
     }
 
     /// Starts the job anew, for a file of `size` bytes.
@@ -47,7 +64,13 @@ impl Job {
     }
 
     /// One more piece, whose rows stand after the used ones.
-    pub(super) fn add(&mut self, from: usize, to: usize, marks: (usize, usize, usize), kept: Kept) -> usize
+    pub(super) fn add(
+        &mut self,
+        from: usize,
+        to: usize,
+        marks: (usize, usize, usize),
+        kept: Kept,
+    ) -> usize
         requires few { ⌜ now self .made < 128 ⌝ }
         requires bytes { ⌜ (from ≤ to) × (to ≤ now self .size) ⌝ }
         requires rows { ⌜ (kept .rows ≤ marks .2 - 1) × (marks .2 ≤ to - from) ⌝ }
@@ -57,7 +80,17 @@ impl Job {
     {
         let number = self.made;
         let (first, last, count) = marks;
-        self.pieces[number] = Piece { from, to, part: Part { first, last, marks: count, at: self.used, kept } };
+        self.pieces[number] = Piece {
+            from,
+            to,
+            part: Part {
+                first,
+                last,
+                marks: count,
+                at: self.used,
+                kept,
+            },
+        };
         self.used += kept.rows;
         self.made = number + 1;
         number

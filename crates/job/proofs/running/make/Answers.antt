@@ -1,4 +1,4 @@
-use mathlib.Core.Path.{_≡_, sym, subst}
+use mathlib.Core.Path.{sym, subst}
 use Rattle.job.specs.declared.steps.Call.{Call}
 use Rattle.job.specs.declared.steps.Reply.the-variants.{Made, Answered}
 use Rattle.job.specs.Runs.{Does, reads, joins, finishes, stage, answered}

@@ -1,15 +1,14 @@
-use mathlib.Core.Path.{_≡_, refl, sym, subst, _∙_}
+use mathlib.Core.Path.{refl, sym, subst, _∙_}
 use mathlib.Core.List.{List, []}
 use Prim.Native.Nat.{_<_}
 use native.Mathlib.Omega.{arith}
-use lib.ListN.{length, getD, take}
-use Rattle.std.specs.declared.result.Result.the-variants.{Ok}
+use lib.ListN.{length, getD}
 use Rattle.std.proofs.shelf.Lists.{take-more-set, take-all}
 use Rattle.job.specs.declared.steps.Call.the-variants.{Read}
 use Rattle.job.specs.declared.steps.Reply.the-variants.{Unanswered}
 use Rattle.job.specs.declared.steps.Step.{Step}
-use Rattle.job.specs.State.{State, seen, asked-open, Refused}
-use Rattle.job.specs.Runs.{Chain, none, Faithfully, begun, stage, answered, lent, Sound}
+use Rattle.job.specs.State.{State, seen, asked-open}
+use Rattle.job.specs.Runs.{Chain, none, Faithfully, begun, stage, answered, Sound}
 use Rattle.job.proofs.Asked.{turns-none}
 use Rattle.job.proofs.Calls.{opened-now}
 use Rattle.job.proofs.Faithful.{sound-begun, step, a-run, chain-push, same-calls}
@@ -20,10 +19,11 @@ loop-i-holds g c =
     let a = c .args in
     let m = g .M·Machine .model (a .m .now) in
     let file = a .file .now in
-    let e = sym (opened-now (length file) (seen (a .job .now)) (c .open .result) (seen (c .open .last .self)) (c .open .ensures .says) (c .in-Continue-open .was tt) .1) in
-    (refl,
+    let e = sym (opened-now (length file) (seen (a .job .now)) (c .open .result) (seen (c .open .last .self)) (c .open .ensures .says) (c .in-Continue-open .was tt) .1) in (
+      refl,
       subst (λ (j : State). Chain (Faithfully m file) (begun file (a .rows .now) (a .actions .now) (a .matches .now)) [] (record { held = record { job = j; rows = a .rows .now; actions = a .actions .now }; found = a .matches .now })) e none,
-      subst (λ (j : State). Sound m file (record { job = j; rows = a .rows .now; actions = a .actions .now })) e (sound-begun m file (a .rows .now) (a .actions .now) (a .matches .now)))
+      subst (λ (j : State). Sound m file (record { job = j; rows = a .rows .now; actions = a .actions .now })) e (sound-begun m file (a .rows .now) (a .actions .now) (a .matches .now)),
+    )
 
 pub loop-i-again : need.loop-i-again
 loop-i-again g c =
@@ -38,10 +38,11 @@ loop-i-again g c =
     let w = stage (c .loop-i .job) (c .loop-i .rows) (c .loop-i .actions) (c .loop-i .matches) in
     let v = stage (c .make-reply .last .job) (c .make-reply .last .rows) (c .make-reply .last .actions) (c .make-reply .last .matches) in
     let next = step m file laws w s v (c .loop-i .inv .2) (c .make-reply .ensures) in
-    let h : i < length ss = omega arith in
-    (same-calls ss i d s h refl ∙ c .loop-i .inv .0,
+    let h : i < length ss = omega arith in (
+      same-calls ss i d s h refl ∙ c .loop-i .inv .0,
       subst (λ (xs : List Step). Chain (Faithfully m file) (begun file (a .rows .now) (a .actions .now) (a .matches .now)) xs v) (sym (take-more-set ss i s h)) (chain-push (c .loop-i .inv .1) (next .0)),
-      next .1)
+      next .1,
+    )
 
 pub returns : need.returns
 returns g c =

@@ -1,6 +1,6 @@
 use mathlib.Core.Path.{_≡_}
 use mathlib.Core.List.{map}
-use lib.ListN.{length, take}
+use lib.ListN.{take}
 use Rattle.job.specs.declared.steps.Step.{Step}
 use Rattle.job.specs.Runs.{Chain, Faithfully, begun, stage, Sound}
 use Rattle.job.proofs.running.run.Given as given

@@ -1,4 +1,3 @@
-use mathlib.Core.Path.{_≡_}
 use native.Mathlib.Omega.{arith}
 use Rattle.job.specs.State.{world}
 use Rattle.job.proofs.Calls.{finish-told, finish-turns}

@@ -1,15 +1,14 @@
-use mathlib.Core.Path.{_≡_, refl, sym, ap, subst, _∙_}
-use Prim.Native.Nat.{ℕ, _+_, _-_, _<_, _≤_}
+use mathlib.Core.Path.{_≡_, ap, subst, _∙_}
+use Prim.Native.Nat.{_+_}
 use native.Mathlib.Omega.{arith}
-use lib.ListN.{length}
 use Rattle.std.specs.declared.result.Result.the-variants.{Ok, Err}
 use Rattle.std.proofs.shelf.Results.{err-from-errBy}
 use borrow.Author.Needs.{needs}
 use Rattle.rows.specs.Lists.{ends-of}
 use Rattle.job.specs.declared.piece.Piece.{Piece}
-use Rattle.job.specs.State.{world, seen, nth-piece, joined-marks, joined-content, asked-join, Turns, Refused, Accepted}
+use Rattle.job.specs.State.{world, seen, nth-piece, joined-marks, joined-content, asked-join, Refused, Accepted}
 use Rattle.job.proofs.Asked.{turns-none}
-use Rattle.job.proofs.Calls.{allowed-none, refused-turns, unchanged, joined-count, join-told, made-piece}
+use Rattle.job.proofs.Calls.{refused-turns, unchanged, joined-count, join-told, made-piece}
 use Rattle.job.proofs.job.Job.join.Needs as need
 
 pub returns-in-Break-l : need.returns-in-Break-l
@@ -44,7 +43,7 @@ add-requires g c κs =
     let t = join-told (a .file .now) (a .self .now) (a .rows .now) (a .actions .now) (a .left) (a .right) (d .l) (d .r) (c .ask-join .result) (c .ask-join .ensures) (d .was tt) in
     let y = t .ready in
     let n : c .joined-ends-marks .result .2 ≡ d .l .part .marks + d .r .part .marks =
-      ap (λ x. x .2) (c .joined-ends-marks .ensures) ∙ joined-count (ends-of (d .l .part)) (ends-of (d .r .part)) in
+    ap (λ x. x .2) (c .joined-ends-marks .ensures) ∙ joined-count (ends-of (d .l .part)) (ends-of (d .r .part)) in
     let f = c .join-kept .ensures .few in
     record {
       few = y .few;
@@ -64,10 +63,10 @@ returns g c =
     let v = world (c .add .last .self) (c .join-kept .last .rows) (c .join-kept .last .actions) in
     record {
       says =
-        turns-none _ (λ why. Refused why w (Ok (c .add .result)) v) _ (t .none)
-        (subst (λ (x : Piece). Accepted w (x .from) (nth-piece (seen j) (a .right) .to) (joined-marks x (nth-piece (seen j) (a .right))) (joined-content (a .file .now) m w x (nth-piece (seen j) (a .right))) (Ok (c .add .result)) v) (t .left-is)
+          turns-none _ (λ why. Refused why w (Ok (c .add .result)) v) _ (t .none)
+          (subst (λ (x : Piece). Accepted w (x .from) (nth-piece (seen j) (a .right) .to) (joined-marks x (nth-piece (seen j) (a .right))) (joined-content (a .file .now) m w x (nth-piece (seen j) (a .right))) (Ok (c .add .result)) v) (t .left-is)
           (subst (λ (x : Piece). Accepted w (d .l .from) (x .to) (joined-marks (d .l) x) (joined-content (a .file .now) m w (d .l) x) (Ok (c .add .result)) v) (t .right-is)
-            (made-piece w v (d .l .from) (d .r .to) (joined-marks (d .l) (d .r)) (c .joined-ends-marks .result) (joined-content (a .file .now) m w (d .l) (d .r)) (c .join-kept .result) (c .add .result) (d .l .part .marks + d .r .part .marks)
-              (c .add .ensures .number) (c .add .ensures .job) (c .joined-ends-marks .ensures) (joined-count (ends-of (d .l .part)) (ends-of (d .r .part))) (c .join-kept .ensures .left))));
+          (made-piece w v (d .l .from) (d .r .to) (joined-marks (d .l) (d .r)) (c .joined-ends-marks .result) (joined-content (a .file .now) m w (d .l) (d .r)) (c .join-kept .result) (c .add .result) (d .l .part .marks + d .r .part .marks)
+          (c .add .ensures .number) (c .add .ensures .job) (c .joined-ends-marks .ensures) (joined-count (ends-of (d .l .part)) (ends-of (d .r .part))) (c .join-kept .ensures .left))));
       kept = tt;
     }

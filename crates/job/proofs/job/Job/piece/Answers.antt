@@ -1,4 +1,4 @@
-use mathlib.Core.Path.{_≡_, sym}
+use mathlib.Core.Path.{sym}
 use Rattle.std.proofs.shelf.Lists.{getD-take}
 use Rattle.job.specs.Pieces.{no-piece}
 use Rattle.job.proofs.job.Job.piece.Needs as need

@@ -1,6 +1,5 @@
 use mathlib.Core.Path.{_≡_, sym}
 use borrow.Author.Needs.{needs}
-use Prim.Native.Nat.{ℕ}
 use Rattle.std.specs.declared.result.Result.the-variants.{Ok, Err}
 use Rattle.std.proofs.shelf.Results.{err-from-errBy}
 use Rattle.tags.specs.Marks.{scanned}
@@ -45,8 +44,8 @@ returns g c =
     let t = read-told (a .file .now) (a .self .now) (a .rows .now) (a .actions .now) (a .from) (a .to) told (c .ask-read .result) (c .ask-read .ensures) (c .in-Continue-marks .was tt) in
     record {
       says =
-        turns-none (asked-read (a .file .now) w (a .from) (a .to)) (λ why. Refused why w (Ok (c .add .result)) v) _ (t .none)
-        (made-piece w v (a .from) (a .to) (scanned (a .file .now) (a .from) (a .to)) told (content (a .file .now) (stored m) (a .from) (a .to)) (c .read-kept .result) (c .add .result) (told .2)
+          turns-none (asked-read (a .file .now) w (a .from) (a .to)) (λ why. Refused why w (Ok (c .add .result)) v) _ (t .none)
+          (made-piece w v (a .from) (a .to) (scanned (a .file .now) (a .from) (a .to)) told (content (a .file .now) (stored m) (a .from) (a .to)) (c .read-kept .result) (c .add .result) (told .2)
           (c .add .ensures .number) (c .add .ensures .job) (t .is) (sym (t .count)) (c .read-kept .ensures .left));
       kept = tt;
     }

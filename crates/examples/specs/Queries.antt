@@ -1,4 +1,4 @@
--- Worked examples.
+-- Queries worked through: their states, and the paths that they meet.
 use mathlib.Core.Path.{_≡_}
 use mathlib.Core.Bool.{true, false}
 use mathlib.Core.List.{List, [], _∷_, map}
@@ -41,7 +41,7 @@ statesOfOne limit q = statesOf limit (namesUsed (q ∷ [])) (q ∷ [])
 abbrev pub AllOfOne : Query → List ℕ → Type 0
 AllOfOne q sets = AllArising (leads (positions (namesUsed (q ∷ [])) (q ∷ []))) (length (namesUsed (q ∷ [])) + 1) (mask (begins (q ∷ []))) sets
 
-pub record Examples : Type 0 where
+pub record QueryExamples : Type 0 where
   -- `//a/*/*/*/*` has 32 states
   pub four-passes : Passes (codes "//a/*/*/*/*") (four ∷ [])
   pub four-states : length (statesOfOne 32 four) ≡ 32

@@ -6,8 +6,8 @@ use Rattle.tags.specs.declared.tag.TagKind.the-variants.{Start, Empty, End}
 use Rattle.tags.specs.declared.tag.Cause.the-variants.{NoName, NoEquals, NoQuote, Misplaced}
 use Rattle.tags.specs.Reads.{tag, fault, readTag}
 
-abbrev pub Examples : Type 0
-Examples =
+abbrev pub TagExamples : Type 0
+TagExamples =
     (readTag (codes "<a b='1'c='2'>") ≡ fault Misplaced 8)
     × (readTag (codes "<a 1>") ≡ fault Misplaced 3)
     × (readTag (codes "< a>") ≡ fault NoName 1)

@@ -14,9 +14,9 @@ use Rattle.machine.proofs.Stands.{meets-decides}
 use Rattle.positions.specs.Tabs.{tab}
 use Rattle.positions.specs.Sets.{movedOn}
 use Rattle.positions.specs.Verdicts.{Passes}
 use Rattle.table.specs.Closure.{closure}
-use Rattle.table.specs.Examples.{Examples, four, five, slash, slashes, twoDays, statesOfOne}
+use Rattle.examples.specs.Queries.{QueryExamples, four, five, slash, slashes, twoDays, statesOfOne}
 use Rattle.table.proofs.Arise.{closure-finds}
 
 four-states : length (statesOfOne 32 four) ≡ 32
 unfolding mask tab movedOn closure
@@ -60,7 +60,7 @@ misses = refl
 meets : meets? (map asked (slashes (codes "day") ∷ [])) twoDays ≡ true
 meets = refl
 
-pub examples : Examples
+pub examples : QueryExamples
 examples = record {
   four-passes = four-passes;
   four-states = four-states;

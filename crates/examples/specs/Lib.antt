@@ -1,0 +1,4 @@
+pub mod Queries
+pub mod Tags
+pub mod Files
+pub mod Worked
