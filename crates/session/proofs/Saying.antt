@@ -26,7 +26,7 @@ use Rattle.session.specs.declared.outcome.Outcome.{Outcome}
 use Rattle.session.specs.declared.outcome.Outcome.the-variants.{Refused, Answered}
 use Rattle.session.specs.Plan.{plan-of}
 use Rattle.session.specs.Solving.{Solved, Solve-says}
-use Rattle.session.specs.Answering.{as-refusal, Tried, Text-says, refuses, by-table, by-relation, Input-says, OwnAnswer, Said}
+use Rattle.session.specs.Answering.{as-refusal, room, Tried, Text-says, refuses, by-table, by-relation, Input-says, OwnAnswer, Said}
 
 -- but for the sets that arise, the table machine is refused as any is
 pub refused-too : (queries : List ℕ) (why : Refusal) → (why ≡ TooManySets → ⊥) → TableRefused queries why → text.Refused queries why
@@ -51,9 +51,9 @@ refused-answered : (why : Refusal) (a : Answer) → Refused why ≡ Answered a �
 refused-answered why a e = let z : _≡_ {A = ℕ} 0 1 = cc in omega arith
 
 module _ {A P : Type 0} (m : Model A P) (cuts file : List ℕ) (ms : List Match) (o : Outcome) (ns : List Match) (a : Answer) (answered : o ≡ Answered a) where
-  by-turns : (q : Option Refusal) (asked : List Step) (rs : List Row) (ps : List P) → Turns q (λ why. (o ≡ Refused why) × (ns ≡ ms)) (Solved m asked file rs ps ms o ns) → Ended (own (m .verdict) file) ms (Ok a) ns
-  by-turns (Some why) asked rs ps h = absurd (refused-answered why a (sym (h .0) ∙ answered))
-  by-turns None asked rs ps h = h .answers a answered
+  by-turns : (q : Option Refusal) (steps : List Step) (rs : List Row) (ps : List P) → Turns q (λ why. (o ≡ Refused why) × (ns ≡ ms)) (Solved m steps file rs ps ms o ns) → Ended (own (m .verdict) file) ms (Ok a) ns
+  by-turns (Some why) steps rs ps h = absurd (refused-answered why a (sym (h .0) ∙ answered))
+  by-turns None steps rs ps h = h .answers a answered
 
   own-tried : Tried m cuts file ms o ns → Ended (own (m .verdict) file) ms (Ok a) ns
   own-tried t = by-turns (asked-open (length file)) (plan-of cuts (length file)) (t .rows) (t .actions) (t .says)
@@ -88,3 +88,6 @@ said-text cuts queries file said ms o ns e h = subst (λ s. Said s ms o ns) e (r
 
 pub said-refused : (why : InputRefusal) (said : Asked) (ms ns : List Match) (r : Refusal) → refused why ≡ said → r ≡ as-refusal why → ns ≡ ms → Said said ms (Refused r) ns
 said-refused why said ms ns r e f g = subst (λ s. Said s ms (Refused r) ns) e (record { says = (ap (λ x. Refused x) f, g); answers = λ a is. absurd (refused-answered r a is) })
+
+pub tried : {A P : Type 0} (m : Model A P) (cuts file : List ℕ) (rows : List Row) (actions : List P) (ms : List Match) (o : Outcome) (ns : List Match) → length rows ≡ room → length actions ≡ room → Solve-says m (plan-of cuts (length file)) file rows actions ms o ns → Tried m cuts file ms o ns
+tried m cuts file rows actions ms o ns r a says = record { rows = rows; actions = actions; rows-room = r; actions-room = a; says = says }

@@ -67,8 +67,10 @@ fn answer_queries(heap: Global, queries: &[u8], cuts: &[usize], file: &[u8], mat
     let mut machine = TableMachine::new();
     match machine.make(queries) {
         Ok(()) => try_table(heap, &machine, cuts, file, matches),
-        Err(Refusal::TooManySets) => answer_by_relation(heap, queries, cuts, file, matches),
-        Err(why) => Ok(Outcome::Refused(why)),
+        Err(why) => match why {
+            Refusal::TooManySets => answer_by_relation(heap, queries, cuts, file, matches),
+            _ => Ok(Outcome::Refused(why)),
+        },
     }
 }
 
