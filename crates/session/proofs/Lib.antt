@@ -1,0 +1,5 @@
+mod Planning
+mod Telling
+mod Deciding
+mod Tried
+mod Saying

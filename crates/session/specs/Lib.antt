@@ -1,0 +1,6 @@
+pub mod Plan
+pub mod Outcomes
+pub mod Listing
+pub mod Solving
+pub mod Answering
+pub mod Printing
