@@ -15,7 +15,7 @@ fn inputs(rt: LibcRuntime) -> Result<(), Fail> {
         (b"13\n/day/stop\n//stop\n/day//tour/*\n\n<day><tour><stop/></tour><stop></stop></day>\n", "match 11 1\nmatch 11 2\nmatch 25 0\nmatch 25 1\nend 4\n"),
         (b"\n//a\n\n<a><a/></a>", "match 0 0\nmatch 3 0\nend 2\n"),
         (b"1 2 3 4 5\n//a\n\n<a><a/></a>", "match 0 0\nmatch 3 0\nend 2\n"),
-        (b"0 12\n//a\n\n<a><a/></a>", "match 0 0\nmatch 3 0\nend 2\n"),
+        (b"0 11\n//a\n\n<a><a/></a>", "match 0 0\nmatch 3 0\nend 2\n"),
         (b"\n/a\n", "end 0\n"),
         (b"2\n/a\n\n<a><b></a>", "fault 102 6\n"),
         (b"\n/a\n\n</a><", "fault 103 0\n"),
