@@ -8,8 +8,8 @@ use Rattle.finishing.specs.Ends.{answered}
 use Rattle.finishing.proofs.Ranges.{part-paired, part-rule}
 use Rattle.finishing.proofs.closing.ending.Goals as goal
 
-pub ending-of-requires : goal.ending-of-requires
-ending-of-requires g c =
+pub ending_of-requires : goal.ending_of-requires
+ending_of-requires g c =
     let a = c.args.part.at in
     let n = c.args.part.kept.rows in
     let rs = c.args.rows.now in
@@ -26,6 +26,6 @@ returns g c =
     let a = c.args.part.at in
     let n = c.args.part.kept.rows in
     let e = part-paired c.args.rows.now c.args.actions.now a n in
-    ap (λ l. answered m l c.ending-of.result) (sym e)
-    ∙ c.ending-of.ensures
+    ap (λ l. answered m l c.ending_of.result) (sym e)
+    ∙ c.ending_of.ensures
     ∙ ap (λ l. finish m (last_put c.args.file.now m (ends_of c.args.part) (record { rows = l; fault = c.args.part.kept.fault }))) e

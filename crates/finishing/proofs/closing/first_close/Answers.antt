@@ -22,7 +22,7 @@ pub loop-row-preserved : goal.loop-row-preserved
 loop-row-preserved c =
     let rs = c.args.rows.now in
     let i = c.loop-row.row-index in
-    past (at rs i) (drop (i + 1) rs) c.in-default.not-Close ∙ ap first_close_row (sym (drop_more rs i no_row (omega arith))) ∙ c.loop-row.invariant
+    past (at rs i) (drop (i + 1) rs) c.in_default.not-Close ∙ ap first_close_row (sym (drop_more rs i no_row (omega arith))) ∙ c.loop-row.invariant
 
 pub returns : goal.returns
 returns c = sym (at_drop_all first_close_row c.args.rows.now c.loop-row.row-index c.loop-row-test.false) ∙ c.loop-row.invariant

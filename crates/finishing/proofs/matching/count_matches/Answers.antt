@@ -7,8 +7,8 @@ use Rattle.answers.specs.Finish.{row_matches}
 use Rattle.finishing.proofs.Matches.{matches-number, next_row}
 use Rattle.finishing.proofs.matching.count_matches.Goals as goal
 
-pub overflow-add-n : goal.overflow-add-n
-overflow-add-n g c = omega (arith, c.count-set-n.ensures.few)
+pub overflow_add-n : goal.overflow_add-n
+overflow_add-n g c = omega (arith, c.count_set-n.ensures.few)
 
 pub loop-i-preserved : goal.loop-i-preserved
 loop-i-preserved g c =
@@ -17,9 +17,9 @@ loop-i-preserved g c =
     let p = c.index-actions-i.result in
     let i = c.loop-i.i in
     let set = c.marked.ensures in
-    let own : c.count-set-n.result ≡ length (matches_at (at rs i).place 0 ((stored m).marks p)) = c.count-set-n.ensures.number ∙ ap (λ l. length (matches_at 0 0 l)) set ∙ matches-number 0 0 (at rs i).place 0 ((stored m).marks p) in
+    let own : c.count_set-n.result ≡ length (matches_at (at rs i).place 0 ((stored m).marks p)) = c.count_set-n.ensures.number ∙ ap (λ l. length (matches_at 0 0 l)) set ∙ matches-number 0 0 (at rs i).place 0 ((stored m).marks p) in
     let all = ap length (next_row m rs c.args.actions.now c.requires.sizes i (omega arith) p c.index-actions-i.is) ∙ length-append (row_matches (stored m) (take i (paired rs c.args.actions.now))) (matches_at (at rs i).place 0 ((stored m).marks p)) in
-    (omega (arith, all, own, c.loop-i.invariant.0), omega (arith, c.count-set-n.ensures.few))
+    (omega (arith, all, own, c.loop-i.invariant.0), omega (arith, c.count_set-n.ensures.few))
 
 pub returns : goal.returns
 returns g c = record {

@@ -12,8 +12,8 @@ use Rattle.finishing.proofs.matching.write_matches.Goals as goal
 pub loop-i-init : goal.loop-i-init
 loop-i-init g c = (sym (splice-none c.args.at c.args.matches.now), omega arith)
 
-pub write-set-n-requires : goal.write-set-n-requires
-write-set-n-requires g c =
+pub write_set-n-requires : goal.write_set-n-requires
+write_set-n-requires g c =
     let m = g.M.Machine.model c.args.m.now in
     let rs = c.args.rows.now in
     let p = c.index-actions-i.result in
@@ -29,9 +29,9 @@ loop-i-preserved g c =
     let p = c.index-actions-i.result in
     let i = c.loop-i.i in
     let set = c.marked.ensures in (
-      c.write-set-n.ensures.written ∙ ap (λ l. splice c.loop-i.n (matches_at (at rs i).place 0 l) c.loop-i.matches) set
+      c.write_set-n.ensures.written ∙ ap (λ l. splice c.loop-i.n (matches_at (at rs i).place 0 l) c.loop-i.matches) set
           ∙ row_written m rs c.args.actions.now c.requires.sizes i (omega arith) p c.index-actions-i.is c.args.matches.now c.loop-i.matches c.args.at c.loop-i.n c.loop-i.invariant.0 c.loop-i.invariant.1 c.requires.room,
-      c.write-set-n.ensures.end ∙ ap (λ l. c.loop-i.n + length (matches_at (at rs i).place 0 l)) set
+      c.write_set-n.ensures.end ∙ ap (λ l. c.loop-i.n + length (matches_at (at rs i).place 0 l)) set
           ∙ row-end m rs c.args.actions.now c.requires.sizes i (omega arith) p c.index-actions-i.is c.args.matches.now c.loop-i.matches c.args.at c.loop-i.n c.loop-i.invariant.0 c.loop-i.invariant.1 c.requires.room,
     )
 

@@ -13,14 +13,14 @@ fits c = has_room c.args.place c.args.set.now c.loop-q.q (omega arith) c.args.ma
 pub loop-q-init : goal.loop-q-init
 loop-q-init c = (sym (splice-none c.args.at c.args.matches.now), omega arith)
 
-pub offset-bounds-matches-n : goal.offset-bounds-matches-n
-offset-bounds-matches-n c = omega (arith, fits c)
+pub offset_bounds-matches-n : goal.offset_bounds-matches-n
+offset_bounds-matches-n c = omega (arith, fits c)
 
 pub bounds-matches-n : goal.bounds-matches-n
 bounds-matches-n c = omega (arith, fits c)
 
-pub overflow-add-n : goal.overflow-add-n
-overflow-add-n c = omega (arith, fits c)
+pub overflow_add-n : goal.overflow_add-n
+overflow_add-n c = omega (arith, fits c)
 
 pub loop-q-preserved : goal.loop-q-preserved
 loop-q-preserved c =

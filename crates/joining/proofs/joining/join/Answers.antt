@@ -8,8 +8,8 @@ use Rattle.joining.proofs.Regions.{same-sizes}
 use Rattle.rows.proofs.Leaves.{written_front, kept-is, rows_are, actions_are, rule_front}
 use Rattle.joining.proofs.joining.join.Goals as goal
 
-pub join-rows-requires : goal.join-rows-requires
-join-rows-requires g c =
+pub join_rows-requires : goal.join_rows-requires
+join_rows-requires g c =
     let a = c.args in
     let rs = a.rows.now in
     let ps = a.actions.now in
@@ -39,7 +39,7 @@ returns g c =
     let u = a.used in
     let marks = a.left.marks + a.right.marks in
     let end = u + marks in
-    let j = c.join-rows in
+    let j = c.join_rows in
     let ys = j.new.rows in
     let qs = j.new.actions in
     let w : length ys ≡ end = let v = length-take-le end rs c.requires.room.0 in omega arith in

@@ -13,7 +13,7 @@ returns-then-left-eq0 g c =
     let rs = a.rows.now in
     let ps = a.actions.now in
     let m = stored (g.M.Machine.model a.m.now) in
-    let k = c.copy-part in
+    let k = c.copy_part in
     let n : k.result.rows ≡ a.right.kept.rows = ap (λ x. x.rows) k.ensures.kept in
     record {
       joined = k.ensures.copied ∙ sym (joined-left a.file.now m (ends_of a.left) (ends_of a.right) (held rs ps a.left) (held rs ps a.right) c.if-left-eq0.true);
@@ -28,7 +28,7 @@ returns-then-right-eq0 g c =
     let rs = a.rows.now in
     let ps = a.actions.now in
     let m = stored (g.M.Machine.model a.m.now) in
-    let k = c.copy-part-copied in
+    let k = c.copy_part-copied in
     let n : k.result.rows ≡ a.left.kept.rows = ap (λ x. x.rows) k.ensures.kept in
     record {
       joined = k.ensures.copied ∙ sym (joined-right a.file.now m (ends_of a.left) (ends_of a.right) (held rs ps a.left) (held rs ps a.right) c.if-left-eq0.false c.if-right-eq0.true);
@@ -37,12 +37,12 @@ returns-then-right-eq0 g c =
       old = k.ensures.old;
     }
 
-pub put-stretch-between-requires : goal.put-stretch-between-requires
-put-stretch-between-requires g c =
+pub put_stretch-between-requires : goal.put_stretch-between-requires
+put_stretch-between-requires g c =
     let a = c.args in
     let rs = a.rows.now in
     let ps = a.actions.now in
-    let k = c.copy-part-copied in
+    let k = c.copy_part-copied in
     let n : k.result.rows ≡ a.left.kept.rows = ap (λ x. x.rows) k.ensures.kept in
     let some = c.if-left-eq0.false in
     record {
@@ -52,14 +52,14 @@ put-stretch-between-requires g c =
       rule = rule-kept a.file.now k.new.rows k.new.actions a.used k.result (held rs ps a.left) (omega arith) (omega (arith, c.requires.few.0)) k.ensures.copied (kept_rule a.file.now rs ps a.left.at a.left.kept c.requires.sizes (omega arith) c.requires.rule.0);
     }
 
-pub put-part-requires : goal.put-part-requires
-put-part-requires g c =
+pub put_part-requires : goal.put_part-requires
+put_part-requires g c =
     let a = c.args in
     let rs = a.rows.now in
     let ps = a.actions.now in
     let m = stored (g.M.Machine.model a.m.now) in
-    let k = c.copy-part-copied in
-    let b = c.put-stretch-between in
+    let k = c.copy_part-copied in
+    let b = c.put_stretch-between in
     let n : k.result.rows ≡ a.left.kept.rows = ap (λ x. x.rows) k.ensures.kept in
     let left = held rs ps a.left in
     let tag = one a.file.now m (a.left.last, a.right.first) in
@@ -79,9 +79,9 @@ returns g c =
     let rs = a.rows.now in
     let ps = a.actions.now in
     let m = stored (g.M.Machine.model a.m.now) in
-    let k = c.copy-part-copied in
-    let b = c.put-stretch-between in
-    let q = c.put-part in
+    let k = c.copy_part-copied in
+    let b = c.put_stretch-between in
+    let q = c.put_part in
     let n : k.result.rows ≡ a.left.kept.rows = ap (λ x. x.rows) k.ensures.kept in
     let left = held rs ps a.left in
     let right = held rs ps a.right in

@@ -6,8 +6,8 @@ use Rattle.joining.proofs.Mids.{tail_mid, front_mid}
 use Rattle.joining.proofs.Regions.{carried}
 use Rattle.joining.proofs.joining.put_at.Goals as goal
 
-pub put-row-requires : goal.put-row-requires
-put-row-requires g c =
+pub put_row-requires : goal.put_row-requires
+put_row-requires g c =
     let a = c.args in
     let rs = a.rows.now in
     let e = take_rest rs a.used in
@@ -33,14 +33,14 @@ returns g c =
     let f = take_rest ps a.used in
     let h : a.used ≤ length rs = omega arith in
     let i : a.used ≤ length ps = omega arith in
-    let new = c.put-row.new.rows in
-    let nps = c.put-row.new.actions in
+    let new = c.put_row.new.rows in
+    let nps = c.put_row.new.actions in
     let p = ap length e ∙ length-drop a.used rs in
     let q = ap length f ∙ length-drop a.used ps in
     let s = tail_mid a.used rs new h (omega (arith, p)) in
     let t = tail_mid a.used ps nps i (omega (arith, q)) in
     record {
-      taken = carried a.file.now m (drop a.used rs) _ new _ (drop a.used ps) _ nps _ a.left a.n (grown c.put-row.result a.n) (stopped c.put-row.result a.row) _ e f s t c.put-row.ensures.taken;
-      rows = s ∙ c.put-row.ensures.rows ∙ ap (wrote c.put-row.result a.base a.n a.row) e;
+      taken = carried a.file.now m (drop a.used rs) _ new _ (drop a.used ps) _ nps _ a.left a.n (grown c.put_row.result a.n) (stopped c.put_row.result a.row) _ e f s t c.put_row.ensures.taken;
+      rows = s ∙ c.put_row.ensures.rows ∙ ap (wrote c.put_row.result a.base a.n a.row) e;
       old = (front_mid a.used rs new h, front_mid a.used ps nps i);
     }

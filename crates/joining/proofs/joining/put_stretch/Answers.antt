@@ -6,12 +6,12 @@ use Rattle.rows.proofs.Puts.{put-fault, put-bad, put_one}
 use Rattle.rows.proofs.Rules.{rule_drop}
 use Rattle.joining.proofs.joining.put_stretch.Goals as goal
 
-pub put-at-requires : goal.put-at-requires
-put-at-requires g c = record {
+pub put_at-requires : goal.put_at-requires
+put_at-requires g c = record {
   sizes = c.requires.sizes;
   room = c.requires.room;
   within = omega arith;
-  based = c.last-open-from-base.ensures;
+  based = c.last_open_from-base.ensures;
   names = rule_drop c.args.file.now c.args.rows.now c.args.used c.args.x.rows c.requires.rule;
   own = c.in-Ok.ensures.inside;
 }
@@ -30,9 +30,9 @@ pub returns-in-Err : goal.returns-in-Err
 returns-in-Err g c =
     let a = c.args in
     let m = stored (g.M.Machine.model a.m.now) in
-    let s = c.seal-from in
+    let s = c.seal_from in
     record {
-      put = put-bad a.file.now m (kept_at a.rows.now a.actions.now a.used a.x) (one a.file.now m (a.mark, a.to)) _ c.in-Err.fault c.in-default.is c.in-Err.ensures.made s.ensures.sealed;
+      put = put-bad a.file.now m (kept_at a.rows.now a.actions.now a.used a.x) (one a.file.now m (a.mark, a.to)) _ c.in-Err.fault c.in_default.is c.in-Err.ensures.made s.ensures.sealed;
       within = omega (arith, s.ensures.within);
       old = s.ensures.old;
     }
@@ -43,10 +43,10 @@ returns-in-Added g c =
     let m = stored (g.M.Machine.model a.m.now) in
     let u = a.used in
     let n = a.x.rows in
-    let to = c.put-at.new in
+    let to = c.put_at.new in
     let did = c.in-Added.ensures in
     record {
-      put = put_one a.file.now m (paired (drop u a.rows.now) (drop u a.actions.now)) (paired (drop u to.rows) (drop u to.actions)) n _ None c.in-Ok.made.0 c.in-Ok.made.1 a.x.fault (one a.file.now m (a.mark, a.to)) _ c.in-default.is (omega arith) c.in-Ok.ensures.made did.taken refl;
+      put = put_one a.file.now m (paired (drop u a.rows.now) (drop u a.actions.now)) (paired (drop u to.rows) (drop u to.actions)) n _ None c.in-Ok.made.0 c.in-Ok.made.1 a.x.fault (one a.file.now m (a.mark, a.to)) _ c.in_default.is (omega arith) c.in-Ok.ensures.made did.taken refl;
       within = omega arith;
       old = did.old;
     }
@@ -57,10 +57,10 @@ returns-in-Closed g c =
     let m = stored (g.M.Machine.model a.m.now) in
     let u = a.used in
     let n = a.x.rows in
-    let to = c.put-at.new in
+    let to = c.put_at.new in
     let did = c.in-Closed.ensures in
     record {
-      put = put_one a.file.now m (paired (drop u a.rows.now) (drop u a.actions.now)) (paired (drop u to.rows) (drop u to.actions)) n n None c.in-Ok.made.0 c.in-Ok.made.1 a.x.fault (one a.file.now m (a.mark, a.to)) _ c.in-default.is (omega arith) c.in-Ok.ensures.made did.taken refl;
+      put = put_one a.file.now m (paired (drop u a.rows.now) (drop u a.actions.now)) (paired (drop u to.rows) (drop u to.actions)) n n None c.in-Ok.made.0 c.in-Ok.made.1 a.x.fault (one a.file.now m (a.mark, a.to)) _ c.in_default.is (omega arith) c.in-Ok.ensures.made did.taken refl;
       within = omega arith;
       old = did.old;
     }
@@ -71,11 +71,11 @@ returns-in-Mismatch g c =
     let m = stored (g.M.Machine.model a.m.now) in
     let u = a.used in
     let n = a.x.rows in
-    let to = c.put-at.new in
+    let to = c.put_at.new in
     let did = c.in-Mismatch.ensures in
-    let s = c.seal-from-in-Mismatch in
+    let s = c.seal_from-in-Mismatch in
     record {
-      put = put_one a.file.now m (paired (drop u a.rows.now) (drop u a.actions.now)) (paired (drop u to.rows) (drop u to.actions)) n n (Some c.in-Ok.made.0.place) c.in-Ok.made.0 c.in-Ok.made.1 a.x.fault (one a.file.now m (a.mark, a.to)) _ c.in-default.is (omega arith) c.in-Ok.ensures.made did.taken s.ensures.sealed;
+      put = put_one a.file.now m (paired (drop u a.rows.now) (drop u a.actions.now)) (paired (drop u to.rows) (drop u to.actions)) n n (Some c.in-Ok.made.0.place) c.in-Ok.made.0 c.in-Ok.made.1 a.x.fault (one a.file.now m (a.mark, a.to)) _ c.in_default.is (omega arith) c.in-Ok.ensures.made did.taken s.ensures.sealed;
       within = omega (arith, s.ensures.within);
       old = (s.ensures.old.0 ∙ did.old.0, s.ensures.old.1 ∙ did.old.1);
     }

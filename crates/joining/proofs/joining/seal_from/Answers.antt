@@ -6,8 +6,8 @@ use Rattle.rows.proofs.Puts.{seal-none, seal-some}
 use Rattle.joining.proofs.Regions.{kept_moved}
 use Rattle.joining.proofs.joining.seal_from.Goals as goal
 
-pub keep-closes-requires : goal.keep-closes-requires
-keep-closes-requires g c =
+pub keep_closes-requires : goal.keep_closes-requires
+keep_closes-requires g c =
     let a = c.args in
     let e = take_rest a.rows.now a.used in
     let f = take_rest a.actions.now a.used in
@@ -28,15 +28,15 @@ returns-in-Some g c =
     let f = take_rest ps u in
     let h : u ≤ length rs = omega arith in
     let i : u ≤ length ps = omega arith in
-    let new = c.keep-closes.new.rows in
-    let nps = c.keep-closes.new.actions in
+    let new = c.keep_closes.new.rows in
+    let nps = c.keep_closes.new.actions in
     let p = ap length e ∙ length-drop u rs in
     let q = ap length f ∙ length-drop u ps in
     let s = tail_mid u rs new h (omega (arith, p)) in
     let t = tail_mid u ps nps i (omega (arith, q)) in
-    let d = c.keep-closes.ensures in
+    let d = c.keep_closes.ensures in
     record {
-      sealed = seal-some (take a.n (paired (drop u rs) (drop u ps))) _ a.fault c.in-Some.field-0 c.in-Some.is (kept_moved (drop u rs) _ new _ (drop u ps) _ nps _ c.keep-closes.result a.n e f s t d.kept);
+      sealed = seal-some (take a.n (paired (drop u rs) (drop u ps))) _ a.fault c.in-Some.field-0 c.in-Some.is (kept_moved (drop u rs) _ new _ (drop u ps) _ nps _ c.keep_closes.result a.n e f s t d.kept);
       within = d.within;
       old = (front_mid u rs new h, front_mid u ps nps i);
     }

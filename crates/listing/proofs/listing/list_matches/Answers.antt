@@ -3,5 +3,5 @@ use Rattle.listing.proofs.Listed.{listed_end}
 use Rattle.listing.proofs.listing.list_matches.Goals as goal
 
 pub returns : goal.returns
-returns c = listed_end c.args.count c.min-shown.result c.args.matches.now (string_bytes c.in-ok-text.text) (string_bytes c.in-ok-end-line.field-0) (string_bytes c.add-line.new.text)
-    c.min-shown.ensures c.in-ok-text.ensures c.in-ok-end-line.ensures c.in-ok-add-line.ensures
+returns c = listed_end c.args.count c.min-shown.result c.args.matches.now (string_bytes c.in_ok-text.text) (string_bytes c.in_ok-end_line.field-0) (string_bytes c.add_line.new.text)
+    c.min-shown.ensures c.in_ok-text.ensures c.in_ok-end_line.ensures c.in_ok-add_line.ensures

@@ -25,7 +25,7 @@ loop-j-preserved c =
         | then-first w ↦ w.starts-is ∙ ap (λ m. bit_or m ((1 * 2 ^ j) % 2 ^ 32)) old ∙ sym (ap (λ t. cond t (bit_or (mask (take j xs)) ((1 * 2 ^ j) % 2 ^ 32)) (mask (take j xs))) w.if-first.true) ∙ bits
         | else-first w ↦ w.starts-is ∙ old ∙ sym (ap (λ t. cond t (bit_or (mask (take j xs)) ((1 * 2 ^ j) % 2 ^ 32)) (mask (take j xs))) w.if-first.false) ∙ bits
       ],
-      ap (λ b. start_bits b (drop (j + 1) ps)) c.is-end-first.ensures ∙ more.1,
+      ap (λ b. start_bits b (drop (j + 1) ps)) c.is_end-first.ensures ∙ more.1,
     )
 
 pub returns : goal.returns

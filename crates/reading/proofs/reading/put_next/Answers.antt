@@ -10,14 +10,14 @@ use Rattle.reading.proofs.reading.put_next.Goals as goal
 pub closed-requires : goal.closed-requires
 closed-requires g c =
     let a = c.args in
-    (c.requires.ready.sound, ready-closable a.file.now a.rows.now c.put-row.new.rows a.reader.now c.requires.room c.requires.ready (omega arith) c.in-Closed.ensures.rows)
+    (c.requires.ready.sound, ready-closable a.file.now a.rows.now c.put_row.new.rows a.reader.now c.requires.room c.requires.ready (omega arith) c.in-Closed.ensures.rows)
 
 pub returns-in-Added : goal.returns-in-Added
 returns-in-Added g c =
     let a = c.args in
     let m = stored (g.M.Machine.model a.m.now) in
     let was = a.reader.now in
-    let to = c.put-row.new in
+    let to = c.put_row.new in
     let d = c.added in
     let did = c.in-Added.ensures in
     record {
@@ -31,7 +31,7 @@ returns-in-Closed g c =
     let a = c.args in
     let m = stored (g.M.Machine.model a.m.now) in
     let was = a.reader.now in
-    let to = c.put-row.new in
+    let to = c.put_row.new in
     let d = c.closed in
     let did = c.in-Closed.ensures in
     record {
@@ -45,7 +45,7 @@ returns-in-Mismatch g c =
     let a = c.args in
     let m = stored (g.M.Machine.model a.m.now) in
     let was = a.reader.now in
-    let to = c.put-row.new in
+    let to = c.put_row.new in
     let did = c.in-Mismatch.ensures in
     record {
       put = put_one a.file.now m (paired a.rows.now a.actions.now) (paired to.rows to.actions) was.rows was.rows (Some a.row.place) a.row a.plain.now None (lone a.row a.plain.now) _ refl (omega arith) refl did.taken refl;

@@ -18,11 +18,11 @@ bit_le n p h = omega (arith, bit n p h, lowest_le 32 n (count_trailing_zeros 32 
 pub bounds-rows-j : goal.bounds-rows-j
 bounds-rows-j c = (at c.loop-left.left c.loop-left-test.true (omega arith)).inside
 
-pub overflow-shl-left : goal.overflow-shl-left
-overflow-shl-left c = (at c.loop-left.left c.loop-left-test.true (omega arith)).inside
+pub overflow_shl-left : goal.overflow_shl-left
+overflow_shl-left c = (at c.loop-left.left c.loop-left-test.true (omega arith)).inside
 
-pub overflow-sub-left : goal.overflow-sub-left
-overflow-sub-left c = bit_le c.loop-left.left c.loop-left-test.true (omega arith)
+pub overflow_sub-left : goal.overflow_sub-left
+overflow_sub-left c = bit_le c.loop-left.left c.loop-left-test.true (omega arith)
 
 pub loop-left-smaller : goal.loop-left-smaller
 loop-left-smaller c =

@@ -3,7 +3,7 @@ use Rattle.std.proofs.lemmas.List.{drop-set-lt}
 use Rattle.rows.specs.Pieces.{closes}
 use Rattle.rows.specs.Places.{paired}
 use Rattle.rows.proofs.Keeps.{keep-more, keep-less}
-use Rattle.rows.proofs.keeping.keep_closes.Goals.{in-Close, in-default}
+use Rattle.rows.proofs.keeping.keep_closes.Goals.{in-Close, in_default}
 use Rattle.rows.proofs.keeping.keep_closes.Goals as goal
 
 pub loop-i-preserved : goal.loop-i-preserved
@@ -21,7 +21,7 @@ loop-i-preserved g c =
         ap (drop n) w.actions-is ∙ drop-set-lt n l.actions l.k _ below ∙ l.invariant.2,
       )
       | in-default w ↦ (
-        keep-less z l.rows l.actions sizes l.k l.i l.invariant.0 here _ _ _ w.in-default.not-Close w.rows-is w.actions-is w.k-is,
+        keep-less z l.rows l.actions sizes l.k l.i l.invariant.0 here _ _ _ w.in_default.not-Close w.rows-is w.actions-is w.k-is,
         ap (drop n) w.rows-is ∙ l.invariant.1,
         ap (drop n) w.actions-is ∙ l.invariant.2,
       )

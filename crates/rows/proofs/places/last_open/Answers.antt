@@ -10,7 +10,7 @@ pub loop-i-preserved : goal.loop-i-preserved
 loop-i-preserved c = (
   omega arith,
   λ k a b o. ⊎_elim
-      (λ e. c.in-default.not-Open (rw e at o))
+      (λ e. c.in_default.not-Open (rw e at o))
       (λ ne. c.loop-i.invariant.1 k (let z : c.loop-i.i ≤ k = omega arith in z) b o)
       (cases_eq k (c.loop-i.i - 1)),
 )

@@ -4,19 +4,19 @@ use Rattle.rows.specs.Places.{stored, paired, state, Based, BaseAt, close_row}
 use Rattle.rows.proofs.Steps.{stored-then, none-step, under-step, close-step, mismatch-step}
 use Rattle.rows.proofs.putting.put_row.Goals as goal
 
-pub returns-in-default : goal.returns-in-default
-returns-in-default g c =
+pub returns-in_default : goal.returns-in_default
+returns-in_default g c =
     let a = c.args in
     let m = stored (g.M.Machine.model a.m.now) in
-    let b = subst (Based a.rows.now a.left) c.in-default.is c.requires.based in
+    let b = subst (Based a.rows.now a.left) c.in_default.is c.requires.based in
     record { taken = none-step a.file.now m a.rows.now a.actions.now c.requires.sizes a.left a.n c.requires.room c.requires.within a.row a.plain.now b; rows = refl; rest = drop-set-lt (a.n + 1) a.actions.now a.n _ (omega arith) }
 
-pub returns-then-not-close-base : goal.returns-then-not-close-base
-returns-then-not-close-base g c =
+pub returns-then-not-close_base : goal.returns-then-not-close_base
+returns-then-not-close_base g c =
     let a = c.args in
     let m = stored (g.M.Machine.model a.m.now) in
     let b = subst (Based a.rows.now a.left) c.in-Some.is c.requires.based in
-    let did = c.if-not-close-base.ensures in
+    let did = c.if-not-close_base.ensures in
     record {
       taken = ap (λ x. state (paired x a.actions.now) a.left a.n (Some a.row.place)) did.rows
           ∙ mismatch-step a.file.now m a.rows.now a.actions.now c.requires.sizes a.left a.n c.requires.room c.requires.within a.row c.in-Some.i b a.plain.now c.in-Close.is (sym did.same);
@@ -29,7 +29,7 @@ returns-in-Close g c =
     let a = c.args in
     let m = stored (g.M.Machine.model a.m.now) in
     let b = subst (Based a.rows.now a.left) c.in-Some.is c.requires.based in
-    let did = c.if-not-close-base.ensures in
+    let did = c.if-not-close_base.ensures in
     record {
       taken = ap (λ x. state (paired x a.actions.now) a.left a.n None) did.rows
           ∙ close-step a.file.now m a.rows.now a.actions.now c.requires.sizes a.left a.n c.requires.room c.requires.within a.row c.in-Some.i b a.plain.now c.in-Close.is (sym did.same);
@@ -48,4 +48,4 @@ returns g c =
     let e : c.plain.result ≡ m.then (get_or a.actions.now i r) a.plain.now =
     stored-then (g.M.Machine.model a.m.now) (get_or a.actions.now i r) a.plain.now c.plain.result
     (let f = c.index-actions-i.is in cc) in
-    record { taken = under-step a.file.now m a.rows.now a.actions.now c.requires.sizes a.left a.n c.requires.room c.requires.within a.row i b a.plain.now c.plain.result r c.in-default-kind.not-Close e; rows = refl; rest = drop-set-lt (a.n + 1) a.actions.now a.n _ (omega arith) }
+    record { taken = under-step a.file.now m a.rows.now a.actions.now c.requires.sizes a.left a.n c.requires.room c.requires.within a.row i b a.plain.now c.plain.result r c.in_default-kind.not-Close e; rows = refl; rest = drop-set-lt (a.n + 1) a.actions.now a.n _ (omega arith) }

@@ -4,17 +4,17 @@ use Rattle.rows.specs.Pieces.{Inside}
 use Rattle.rows.proofs.Tags.{tag-inside, tag-made}
 use Rattle.rows.proofs.tagging.tag_row.Goals as goal
 
-pub row-of-requires : goal.row-of-requires
-row-of-requires g c =
-    let t = c.in-ok-tag.tag in
-    let h = tag-inside c.args.file.now c.args.mark c.args.to (kind_of t) (name_of t) c.in-ok-tag.ensures in
+pub row_of-requires : goal.row_of-requires
+row_of-requires g c =
+    let t = c.in_ok-tag.tag in
+    let h = tag-inside c.args.file.now c.args.mark c.args.to (kind_of t) (name_of t) c.in_ok-tag.ensures in
     omega (arith, h, c.requires)
 
 pub returns : goal.returns
 returns g c =
-    let t = c.in-ok-tag.tag in
-    let read = c.in-ok-tag.ensures in
+    let t = c.in_ok-tag.tag in
+    let read = c.in_ok-tag.ensures in
     record {
-      made = tag-made (g.M.Machine.model c.args.m.now) c.args.file.now c.args.mark c.args.to (kind_of t) (name_of t) c.row-of.result c.own-plain.result read c.row-of.ensures c.own-plain.ensures;
-      inside = subst (Inside c.args.file.now) (sym c.row-of.ensures) (tag-inside c.args.file.now c.args.mark c.args.to (kind_of t) (name_of t) read);
+      made = tag-made (g.M.Machine.model c.args.m.now) c.args.file.now c.args.mark c.args.to (kind_of t) (name_of t) c.row_of.result c.own_plain.result read c.row_of.ensures c.own_plain.ensures;
+      inside = subst (Inside c.args.file.now) (sym c.row_of.ensures) (tag-inside c.args.file.now c.args.mark c.args.to (kind_of t) (name_of t) read);
     }

@@ -14,7 +14,7 @@ loop-i-init g c =
     let a = c.args in
     let m = g.M.Machine.model a.m.now in
     let file = a.file.now in
-    let e = sym (opened-now (length file) (seen a.job.now) c.open.result (seen c.open.new.self) c.open.ensures.says c.in-ok-open.was).1 in (
+    let e = sym (opened-now (length file) (seen a.job.now) c.open.result (seen c.open.new.self) c.open.ensures.says c.in_ok-open.was).1 in (
       refl,
       subst (λ (j : State). Chain (Faithfully m file) (begun file a.rows.now a.actions.now a.matches.now) [] (record { held = record { job = j; rows = a.rows.now; actions = a.actions.now }; found = a.matches.now })) e none,
       subst (λ (j : State). Sound m file (record { job = j; rows = a.rows.now; actions = a.actions.now })) e (sound-begun m file a.rows.now a.actions.now a.matches.now),
@@ -48,6 +48,6 @@ returns g c =
     let ss = c.loop-i.steps in
     let w = begun file a.rows.now a.actions.now a.matches.now in
     let v = stage c.loop-i.job c.loop-i.rows c.loop-i.actions c.loop-i.matches in
-    let o = opened-now (length file) (seen a.job.now) c.open.result (seen c.open.new.self) c.open.ensures.says c.in-ok-open.was in
+    let o = opened-now (length file) (seen a.job.now) c.open.result (seen c.open.new.self) c.open.ensures.says c.in_ok-open.was in
     let ran = subst (λ (xs : List Step). Chain (Faithfully m file) w xs v) (take_all c.loop-i.i ss (omega arith)) c.loop-i.invariant.1 in
     turns_none (asked_open (length file)) _ _ o.0 (refl, a-run m file laws w a.steps.now ss v c.loop-i.invariant.0 ran c.loop-i.invariant.2)

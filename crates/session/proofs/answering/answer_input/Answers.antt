@@ -8,5 +8,5 @@ pub returns-in-Ok : goal.returns-in-Ok
 returns-in-Ok c =
     let queries = c.in-Ok.asked.queries.now in
     let file = c.in-Ok.asked.file.now in
-    let is = ap (λ l. asked l queries file) c.as-slice.ensures.value ∙ c.in-Ok.ensures.asks in
-    record { kept = c.answer-queries.ensures.kept; memory = wanted_asked c.answer-queries.result c.args.input.now _ queries file is; said = IfOk-weaker c.answer-queries.result _ _ (λ o h. said_text c.as-slice.result.now queries file (request c.args.input.now) c.args.matches.now o _ is h) c.answer-queries.ensures.says }
+    let is = ap (λ l. asked l queries file) c.as_slice.ensures.value ∙ c.in-Ok.ensures.asks in
+    record { kept = c.answer_queries.ensures.kept; memory = wanted_asked c.answer_queries.result c.args.input.now _ queries file is; said = IfOk-weaker c.answer_queries.result _ _ (λ o h. said_text c.as_slice.result.now queries file (request c.args.input.now) c.args.matches.now o _ is h) c.answer_queries.ensures.says }

@@ -7,13 +7,13 @@ pub unwrap-requires : goal.unwrap-requires
 unwrap-requires g c =
     let a = lent c.new-job.result c.args.rows.now c.args.actions.now c.args.matches.now c.args.steps.now in
     let b = lent c.run.new.job c.run.new.rows c.run.new.actions c.run.new.matches c.run.new.steps in
-    ap is_some c.outcome-of.ensures ∙ decides (g.M.Machine.model c.args.m.now) c.args.file.now a b c.requires c.in-Ok.ensures
+    ap is_some c.outcome_of.ensures ∙ decides (g.M.Machine.model c.args.m.now) c.args.file.now a b c.requires c.in-Ok.ensures
 
 pub returns-in-Ok : goal.returns-in-Ok
 returns-in-Ok g c =
     let a = lent c.new-job.result c.args.rows.now c.args.actions.now c.args.matches.now c.args.steps.now in
     let b = lent c.run.new.job c.run.new.rows c.run.new.actions c.run.new.matches c.run.new.steps in
-    solve-ok (g.M.Machine.model c.args.m.now) c.args.file.now a b c.requires c.in-Ok.ensures c.unwrap.result (sym c.unwrap.ensures ∙ c.outcome-of.ensures)
+    solve-ok (g.M.Machine.model c.args.m.now) c.args.file.now a b c.requires c.in-Ok.ensures c.unwrap.result (sym c.unwrap.ensures ∙ c.outcome_of.ensures)
 
 pub returns-in-Err : goal.returns-in-Err
 returns-in-Err g c =

@@ -9,20 +9,20 @@ kept_same : {X E L : Type 0} (r : Result X E) (l : L) → Kept r l l
 kept_same (Ok x) l = tt
 kept_same (Err e) l = refl
 
-pub run-steps-requires : goal.run-steps-requires
-run-steps-requires g c =
-    subst (λ ss. FinishesLast (calls_of ss)) (sym (c.as-mut-slice.ensures.value ∙ c.in-ok-steps.ensures)) (plan_ends c.args.cuts.now (length c.args.file.now))
+pub run_steps-requires : goal.run_steps-requires
+run_steps-requires g c =
+    subst (λ ss. FinishesLast (calls_of ss)) (sym (c.as_mut_slice.ensures.value ∙ c.in_ok-steps.ensures)) (plan_ends c.args.cuts.now (length c.args.file.now))
 
 pub returns : goal.returns
 returns g c =
     record {
       kept = (tt, tt, tt);
-      solved = subst (λ ss. SolveSays (g.M.Machine.model c.args.m.now) ss c.args.file.now c.args.rows.now c.args.actions.now c.args.matches.now c.run-steps.result c.run-steps.new.rows c.run-steps.new.actions c.run-steps.new.matches)
-          (c.as-mut-slice.ensures.value ∙ c.in-ok-steps.ensures) c.run-steps.ensures;
+      solved = subst (λ ss. SolveSays (g.M.Machine.model c.args.m.now) ss c.args.file.now c.args.rows.now c.args.actions.now c.args.matches.now c.run_steps.result c.run_steps.new.rows c.run_steps.new.actions c.run_steps.new.matches)
+          (c.as_mut_slice.ensures.value ∙ c.in_ok-steps.ensures) c.run_steps.ensures;
     }
 
-pub returns-in-err-steps : goal.returns-in-err-steps
-returns-in-err-steps g c =
+pub returns-in_err-steps : goal.returns-in_err-steps
+returns-in_err-steps g c =
     let a = c.args in
     let e = err_from_is_err_and c.from-residual.result c.from-residual.ensures.1 in
     record {

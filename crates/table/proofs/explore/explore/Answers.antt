@@ -4,16 +4,16 @@ use Rattle.table.proofs.Closing.{filled_ok}
 use Rattle.table.proofs.Trying.{length_seen}
 use Rattle.table.proofs.explore.explore.Goals as goal
 
-pub invariant-of-result : goal.invariant-of-result
-invariant-of-result c =
-    let f = c.try-states.new.found in
-    let h = c.if-not-try-states.ensures.1 in
-    (h.size, (filled_ok _ _ _ (seen f) c.try-states.new.next (omega (arith, length_seen f, f.within)) h, (c.columns-of-columns.ensures.0, (c.columns-of-columns.ensures.1, tt))))
+pub invariant_of-result : goal.invariant_of-result
+invariant_of-result c =
+    let f = c.try_states.new.found in
+    let h = c.if-not-try_states.ensures.1 in
+    (h.size, (filled_ok _ _ _ (seen f) c.try_states.new.next (omega (arith, length_seen f, f.within)) h, (c.columns_of-columns.ensures.0, (c.columns_of-columns.ensures.1, tt))))
 
-pub returns-then-not-try-states : goal.returns-then-not-try-states
+pub returns-then-not-try_states : goal.returns-then-not-try_states
 unfolding seen
-returns-then-not-try-states c = c.if-not-try-states.ensures
+returns-then-not-try_states c = c.if-not-try_states.ensures
 
 pub returns : goal.returns
 unfolding seen
-returns c = record { all = c.if-not-try-states.ensures.0; filled = c.if-not-try-states.ensures.1 }
+returns c = record { all = c.if-not-try_states.ensures.0; filled = c.if-not-try_states.ensures.1 }

@@ -17,8 +17,8 @@ returns-in-None c =
     let x-is = c.on-to.ensures ∙ ap (λ s. by_moves r s c.loop-c.c) (sym s-is) in
     trying_over (by_moves r) c.args.columns c.args.i (get_or (seen f) c.args.i 0) (seen f) c.loop-c.c (seen c.loop-c.found) c.loop-c.next c.on-to.result (omega arith) x-is c.in-None.ensures.0 c.loop-c.invariant
 
-pub overflow-cast-next : goal.overflow-cast-next
-overflow-cast-next c =
+pub overflow_cast-next : goal.overflow_cast-next
+overflow_cast-next c =
     let f = c.loop-c.found in
     omega (arith, c.in-Some.ensures.0, place-le c.on-to.result (seen f), length_seen f, f.within)
 

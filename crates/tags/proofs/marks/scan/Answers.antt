@@ -9,7 +9,7 @@ loop-at-init c = none-counted c.args.file.now c.args.from c.args.to
 pub loop-at-preserved-then-marks-gt0 : goal.loop-at-preserved-then-marks-gt0
 loop-at-preserved-then-marks-gt0 c =
     with-marks c.args.file.now c.args.from c.args.to c.loop-at.at c.loop-at.count c.loop-at.lead c.loop-at.low c.loop-at.high
-    (c.loop-at.at + c.min.result) c.count-marks-marks.result c.loop-at.invariant (omega arith) (omega arith) (omega arith) c.count-marks-marks.ensures (omega arith) (c.loop-at.count + c.count-marks-marks.result) refl
+    (c.loop-at.at + c.min.result) c.count_marks-marks.result c.loop-at.invariant (omega arith) (omega arith) (omega arith) c.count_marks-marks.ensures (omega arith) (c.loop-at.count + c.count_marks-marks.result) refl
 
 pub loop-at-preserved-then-count-eq0 : goal.loop-at-preserved-then-count-eq0
 loop-at-preserved-then-count-eq0 c =
@@ -18,15 +18,15 @@ loop-at-preserved-then-count-eq0 c =
     let to = c.args.to in
     let at = c.loop-at.at in
     let stop = at + c.min.result in
-    let n = c.count-marks-marks.result in
+    let n = c.count_marks-marks.result in
     let none : n ≡ 0 = omega arith in
-    without-marks file from to at c.loop-at.count c.loop-at.lead c.loop-at.low c.loop-at.high stop n c.loop-at.invariant (omega arith) (omega arith) (omega arith) c.count-marks-marks.ensures none stop
-    (none_yet file from to at c.loop-at.count c.loop-at.lead c.loop-at.low c.loop-at.high stop n c.loop-at.invariant (omega arith) (omega arith) (omega arith) c.count-marks-marks.ensures none c.if-count-eq0.true)
+    without-marks file from to at c.loop-at.count c.loop-at.lead c.loop-at.low c.loop-at.high stop n c.loop-at.invariant (omega arith) (omega arith) (omega arith) c.count_marks-marks.ensures none stop
+    (none_yet file from to at c.loop-at.count c.loop-at.lead c.loop-at.low c.loop-at.high stop n c.loop-at.invariant (omega arith) (omega arith) (omega arith) c.count_marks-marks.ensures none c.if-count-eq0.true)
 
 pub loop-at-preserved : goal.loop-at-preserved
 loop-at-preserved c =
     without-marks c.args.file.now c.args.from c.args.to c.loop-at.at c.loop-at.count c.loop-at.lead c.loop-at.low c.loop-at.high
-    (c.loop-at.at + c.min.result) c.count-marks-marks.result c.loop-at.invariant (omega arith) (omega arith) (omega arith) c.count-marks-marks.ensures (omega arith) c.loop-at.lead c.loop-at.invariant.none_ahead
+    (c.loop-at.at + c.min.result) c.count_marks-marks.result c.loop-at.invariant (omega arith) (omega arith) (omega arith) c.count_marks-marks.ensures (omega arith) c.loop-at.lead c.loop-at.invariant.none_ahead
 
 pub returns-then-count-eq0-2 : goal.returns-then-count-eq0-2
 returns-then-count-eq0-2 c =
@@ -35,4 +35,4 @@ returns-then-count-eq0-2 c =
 pub returns : goal.returns
 returns c =
     scanned-some c.args.file.now c.args.from c.args.to c.loop-at.at c.loop-at.count c.loop-at.lead c.loop-at.low c.loop-at.high c.loop-at.invariant (omega arith)
-    (omega (arith, c.if-count-eq0-2.false)) c.next-mark.result c.last-mark.result c.next-mark.ensures c.last-mark.ensures
+    (omega (arith, c.if-count-eq0-2.false)) c.next_mark.result c.last_mark.result c.next_mark.ensures c.last_mark.ensures

@@ -30,9 +30,9 @@ loop-i-preserved-then-end-eq0 c =
     let s' = c.step.new.self.state in
     let i = c.loop-i.i in
     let o = reads Before 0 [] xs in
-    let named = sym c.in-name.ensures ∙ c.if-in-name.true in
+    let named = sym c.in_name.ensures ∙ c.if-in_name.true in
     let first = on-first xs s s' c.loop-i.from c.loop-i.end i i (i + 1) o (omega arith) c.in-On.ensures c.loop-i.invariant.0 c.loop-i.invariant.1 named c.if-end-eq0.true refl refl in
-    stayed-in xs s' i (i + 1) (i + 1) o (omega arith) first.0 first.1 c.stays-to-next.result c.stays-to-next.ensures.within.0 c.stays-to-next.ensures.within.1 c.stays-to-next.ensures.all named
+    stayed-in xs s' i (i + 1) (i + 1) o (omega arith) first.0 first.1 c.stays_to-next.result c.stays_to-next.ensures.within.0 c.stays_to-next.ensures.within.1 c.stays_to-next.ensures.all named
 
 pub loop-i-preserved-else-end-eq0 : goal.loop-i-preserved-else-end-eq0
 loop-i-preserved-else-end-eq0 c =
@@ -42,9 +42,9 @@ loop-i-preserved-else-end-eq0 c =
     let i = c.loop-i.i in
     let from = c.loop-i.from in
     let o = reads Before 0 [] xs in
-    let named = sym c.in-name.ensures ∙ c.if-in-name.true in
+    let named = sym c.in_name.ensures ∙ c.if-in_name.true in
     let more = on-next xs s s' from c.loop-i.end i from (i + 1) o (omega arith) c.in-On.ensures c.loop-i.invariant.0 c.loop-i.invariant.1 named c.if-end-eq0.false refl refl in
-    stayed-in xs s' from (i + 1) (i + 1) o (omega arith) more.0 more.1 c.stays-to-next.result c.stays-to-next.ensures.within.0 c.stays-to-next.ensures.within.1 c.stays-to-next.ensures.all named
+    stayed-in xs s' from (i + 1) (i + 1) o (omega arith) more.0 more.1 c.stays_to-next.result c.stays_to-next.ensures.within.0 c.stays_to-next.ensures.within.1 c.stays_to-next.ensures.all named
 
 pub loop-i-preserved : goal.loop-i-preserved
 loop-i-preserved c =
@@ -55,9 +55,9 @@ loop-i-preserved c =
     let from = c.loop-i.from in
     let end = c.loop-i.end in
     let o = reads Before 0 [] xs in
-    let other = sym c.in-name.ensures ∙ c.if-in-name.false in
+    let other = sym c.in_name.ensures ∙ c.if-in_name.false in
     let past = on-past xs s s' from end i from end o (omega arith) c.in-On.ensures c.loop-i.invariant.0 c.loop-i.invariant.1 other refl refl in
-    stayed-out xs s' from end (i + 1) o (omega arith) past.0 past.1 c.stays-to-next.result c.stays-to-next.ensures.within.0 c.stays-to-next.ensures.within.1 c.stays-to-next.ensures.all other
+    stayed-out xs s' from end (i + 1) o (omega arith) past.0 past.1 c.stays_to-next.result c.stays_to-next.ensures.within.0 c.stays_to-next.ensures.within.1 c.stays_to-next.ensures.all other
 
 pub returns : goal.returns
 returns c =

@@ -16,8 +16,8 @@ returns-then-mark-end c =
     ap (λ b. Err (record { mark = mark; cause = Misplaced; byte = b })) (sym (add-zero mark))
     ∙ ap (λ l. placed mark (read_tag l)) (sym (between-empty c.args.file.now mark c.args.to (omega arith)))
 
-pub overflow-add-result : goal.overflow-add-result
-overflow-add-result c =
+pub overflow_add-result : goal.overflow_add-result
+overflow_add-result c =
     let e = length-between c.args.file.now c.args.mark c.min-end.result (omega arith) in
     omega (arith, c.in-Err.ensures.within)
 

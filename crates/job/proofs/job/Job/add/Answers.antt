@@ -4,8 +4,8 @@ use Rattle.job.specs.State.{State}
 use Rattle.job.proofs.Asked.{placed-more}
 use Rattle.job.proofs.job.Job.add.Goals as goal
 
-pub invariant-of-self : goal.invariant-of-self
-invariant-of-self c =
+pub invariant_of-self : goal.invariant_of-self
+invariant_of-self c =
     let j = c.args.self.now in
     let b = c.requires.bytes in
     let r = c.requires.rows in

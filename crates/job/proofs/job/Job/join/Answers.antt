@@ -7,22 +7,22 @@ use Rattle.job.proofs.Asked.{turns_none}
 use Rattle.job.proofs.Calls.{refused-turns, unchanged, joined_count, join_told, made-piece}
 use Rattle.job.proofs.job.Job.join.Goals as goal
 
-pub returns-in-err-l : goal.returns-in-err-l
-returns-in-err-l g c =
+pub returns-in_err-l : goal.returns-in_err-l
+returns-in_err-l g c =
     let p = err_from_is_err_and c.from-residual.result c.from-residual.ensures.1 in
     let a = c.args in
     let w = world a.self.now a.rows.now a.actions.now in
-    let is : c.from-residual.result ≡ Err c.in-err-l.field-0.0 = cc in
+    let is : c.from-residual.result ≡ Err c.in_err-l.field-0.0 = cc in
     record {
-      says = refused-turns (asked_join a.file.now w a.left a.right) _ c.ask-join.result c.in-err-l.field-0.0 c.from-residual.result w _ c.ask-join.ensures c.in-err-l.was is;
-      kept = unchanged c.from-residual.result c.in-err-l.field-0.0 a.self.now is;
+      says = refused-turns (asked_join a.file.now w a.left a.right) _ c.ask_join.result c.in_err-l.field-0.0 c.from-residual.result w _ c.ask_join.ensures c.in_err-l.was is;
+      kept = unchanged c.from-residual.result c.in_err-l.field-0.0 a.self.now is;
     }
 
 pub join-kept-requires : goal.join-kept-requires
 join-kept-requires g c =
     let a = c.args in
-    let d = c.in-ok-l in
-    let t = join_told a.file.now a.self.now a.rows.now a.actions.now a.left a.right d.l d.r c.ask-join.result c.ask-join.ensures d.was in
+    let d = c.in_ok-l in
+    let t = join_told a.file.now a.self.now a.rows.now a.actions.now a.left a.right d.l d.r c.ask_join.result c.ask_join.ensures d.was in
     let y = t.ready in
     record {
       bytes = y.bytes;
@@ -35,11 +35,11 @@ join-kept-requires g c =
 pub add-requires : goal.add-requires
 add-requires g c =
     let a = c.args in
-    let d = c.in-ok-l in
-    let t = join_told a.file.now a.self.now a.rows.now a.actions.now a.left a.right d.l d.r c.ask-join.result c.ask-join.ensures d.was in
+    let d = c.in_ok-l in
+    let t = join_told a.file.now a.self.now a.rows.now a.actions.now a.left a.right d.l d.r c.ask_join.result c.ask_join.ensures d.was in
     let y = t.ready in
-    let n : c.joined-ends-marks.result.2 ≡ d.l.part.marks + d.r.part.marks =
-    ap (λ x. x.2) c.joined-ends-marks.ensures ∙ joined_count (ends_of d.l.part) (ends_of d.r.part) in
+    let n : c.joined_ends-marks.result.2 ≡ d.l.part.marks + d.r.part.marks =
+    ap (λ x. x.2) c.joined_ends-marks.ensures ∙ joined_count (ends_of d.l.part) (ends_of d.r.part) in
     let f = c.join-kept.ensures.few in
     record {
       few = y.few;
@@ -51,18 +51,18 @@ add-requires g c =
 pub returns : goal.returns
 returns g c =
     let a = c.args in
-    let d = c.in-ok-l in
+    let d = c.in_ok-l in
     let m = g.M.Machine.model a.m.now in
     let j = a.self.now in
     let w = world j a.rows.now a.actions.now in
-    let t = join_told a.file.now j a.rows.now a.actions.now a.left a.right d.l d.r c.ask-join.result c.ask-join.ensures d.was in
+    let t = join_told a.file.now j a.rows.now a.actions.now a.left a.right d.l d.r c.ask_join.result c.ask_join.ensures d.was in
     let v = world c.add.new.self c.join-kept.new.rows c.join-kept.new.actions in
     record {
       says =
           turns_none _ (λ why. Refused why w (Ok c.add.result) v) _ t.none
           (subst (λ (x : Piece). Accepted w x.from (nth_piece (seen j) a.right).to (joined_marks x (nth_piece (seen j) a.right)) (joined_content a.file.now m w x (nth_piece (seen j) a.right)) (Ok c.add.result) v) t.left_is
           (subst (λ (x : Piece). Accepted w d.l.from x.to (joined_marks d.l x) (joined_content a.file.now m w d.l x) (Ok c.add.result) v) t.right_is
-          (made-piece w v d.l.from d.r.to (joined_marks d.l d.r) c.joined-ends-marks.result (joined_content a.file.now m w d.l d.r) c.join-kept.result c.add.result (d.l.part.marks + d.r.part.marks)
-          c.add.ensures.number c.add.ensures.job c.joined-ends-marks.ensures (joined_count (ends_of d.l.part) (ends_of d.r.part)) c.join-kept.ensures.left)));
+          (made-piece w v d.l.from d.r.to (joined_marks d.l d.r) c.joined_ends-marks.result (joined_content a.file.now m w d.l d.r) c.join-kept.result c.add.result (d.l.part.marks + d.r.part.marks)
+          c.add.ensures.number c.add.ensures.job c.joined_ends-marks.ensures (joined_count (ends_of d.l.part) (ends_of d.r.part)) c.join-kept.ensures.left)));
       kept = tt;
     }

@@ -8,27 +8,27 @@ use Rattle.job.proofs.Asked.{turns_none}
 use Rattle.job.proofs.Calls.{refused-turns, unchanged, read_told, made-piece}
 use Rattle.job.proofs.job.Job.read.Goals as goal
 
-pub returns-in-err-marks : goal.returns-in-err-marks
-returns-in-err-marks g c =
+pub returns-in_err-marks : goal.returns-in_err-marks
+returns-in_err-marks g c =
     let p = err_from_is_err_and c.from-residual.result c.from-residual.ensures.1 in
     let a = c.args in
     let w = world a.self.now a.rows.now a.actions.now in
-    let is : c.from-residual.result ≡ Err c.in-err-marks.field-0.0 = cc in
+    let is : c.from-residual.result ≡ Err c.in_err-marks.field-0.0 = cc in
     record {
-      says = refused-turns (asked_read a.file.now w a.from a.to) (scanned a.file.now a.from a.to) c.ask-read.result c.in-err-marks.field-0.0 c.from-residual.result w _ c.ask-read.ensures c.in-err-marks.was is;
-      kept = unchanged c.from-residual.result c.in-err-marks.field-0.0 a.self.now is;
+      says = refused-turns (asked_read a.file.now w a.from a.to) (scanned a.file.now a.from a.to) c.ask_read.result c.in_err-marks.field-0.0 c.from-residual.result w _ c.ask_read.ensures c.in_err-marks.was is;
+      kept = unchanged c.from-residual.result c.in_err-marks.field-0.0 a.self.now is;
     }
 
 pub read-kept-requires : goal.read-kept-requires
 read-kept-requires g c =
     let a = c.args in
-    let t = read_told a.file.now a.self.now a.rows.now a.actions.now a.from a.to c.in-ok-marks.marks c.ask-read.result c.ask-read.ensures c.in-ok-marks.was in
+    let t = read_told a.file.now a.self.now a.rows.now a.actions.now a.from a.to c.in_ok-marks.marks c.ask_read.result c.ask_read.ensures c.in_ok-marks.was in
     record { bytes = t.bytes; within = t.within; marks = t.count; room = (t.in_rows, t.in_acts) }
 
 pub add-requires : goal.add-requires
 add-requires g c =
     let a = c.args in
-    let t = read_told a.file.now a.self.now a.rows.now a.actions.now a.from a.to c.in-ok-marks.marks c.ask-read.result c.ask-read.ensures c.in-ok-marks.was in
+    let t = read_told a.file.now a.self.now a.rows.now a.actions.now a.from a.to c.in_ok-marks.marks c.ask_read.result c.ask_read.ensures c.in_ok-marks.was in
     let r = t.in_rows in
     record { few = t.few; bytes = (t.order, t.end); rows = (c.read-kept.ensures.few, t.marks); used = search rules }
 
@@ -38,8 +38,8 @@ returns g c =
     let m = g.M.Machine.model a.m.now in
     let w = world a.self.now a.rows.now a.actions.now in
     let v = world c.add.new.self c.read-kept.new.rows c.read-kept.new.actions in
-    let told = c.in-ok-marks.marks in
-    let t = read_told a.file.now a.self.now a.rows.now a.actions.now a.from a.to told c.ask-read.result c.ask-read.ensures c.in-ok-marks.was in
+    let told = c.in_ok-marks.marks in
+    let t = read_told a.file.now a.self.now a.rows.now a.actions.now a.from a.to told c.ask_read.result c.ask_read.ensures c.in_ok-marks.was in
     record {
       says =
           turns_none (asked_read a.file.now w a.from a.to) (λ why. Refused why w (Ok c.add.result) v) _ t.none

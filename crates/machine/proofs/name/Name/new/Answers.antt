@@ -3,8 +3,8 @@ use Rattle.std.proofs.lemmas.List.{places}
 use Rattle.std.proofs.lemmas.Slice.{overwrites}
 use Rattle.machine.proofs.name.Name.new.Goals as goal
 
-pub invariant-of-result : goal.invariant-of-result
-invariant-of-result c = (search (rules, places), search rules)
+pub invariant_of-result : goal.invariant_of-result
+invariant_of-result c = (search (rules, places), search rules)
 
 pub returns : goal.returns
 returns c = search (rules, overwrites)

@@ -4,7 +4,7 @@ use Rattle.machine.specs.Sketches.{sketch}
 use Rattle.machine.proofs.Counting.{drafted, drafted_all}
 use Rattle.machine.proofs.Following.{Follows, ahead_more, ahead-last, room, line-room, unfit, follows_none, follows-parted, follows_on, Told, told}
 use Rattle.machine.proofs.plan.Plan.read.Goals as goal
-use Rattle.machine.proofs.plan.Plan.read.Goals.{then-parts-names, else-parts-names}
+use Rattle.machine.proofs.plan.Plan.read.Goals.{then-parts_names, else-parts_names}
 
 pub loop-i-init : goal.loop-i-init
 loop-i-init c = follows_none c.args.text.now c.new-reader.result.state (sketch c.args.self.now) c.new-reader.ensures c.requires.none
@@ -19,12 +19,12 @@ byte-requires c =
       lines = line-room text (drafted text i) c.loop-i.from i c.loop-i.reader.state c.loop-i.self (get_or text i 0) c.loop-i.invariant a c.requires.lines;
     }
 
-pub returns-in-err-byte : goal.returns-in-err-byte
-returns-in-err-byte c =
+pub returns-in_err-byte : goal.returns-in_err-byte
+returns-in_err-byte c =
     let text = c.args.text.now in
     let i = c.loop-i.i in
     let p = err_from_is_err_and c.from-residual.result c.from-residual.ensures.1 in
-    let h = c.in-err-byte.ensures.sketch in
+    let h = c.in_err-byte.ensures.sketch in
     rw (p.1, p.2) (h.0, unfit text (drafted text i) c.loop-i.from i c.loop-i.reader.state c.loop-i.self (get_or text i 0) c.loop-i.invariant (ahead_more text i (omega arith)) h.1)
 
 pub loop-i-preserved : goal.loop-i-preserved
@@ -36,11 +36,11 @@ loop-i-preserved c =
     let s' = c.byte.new.reader.state in
     let p = c.loop-i.self in
     let p' = c.byte.new.self in
-    let h = c.in-ok-byte.ensures in
+    let h = c.in_ok-byte.ensures in
     let high : i < length text = omega arith in
-    elim c.if-parts-names.branch [
-      | then-parts-names w ↦ subst (λ k. Follows (drafted text (i + 1)) text k (i + 1) s' (sketch p')) (sym w.from-is) (follows-parted text from i s s' p (sketch p') high c.loop-i.invariant h.state h.sketch (sym c.parts-names.ensures ∙ w.if-parts-names.true))
-      | else-parts-names w ↦ subst (λ k. Follows (drafted text (i + 1)) text k (i + 1) s' (sketch p')) (sym w.from-is) (follows_on text from i s s' p (sketch p') high c.loop-i.invariant h.state h.sketch (sym c.parts-names.ensures ∙ w.if-parts-names.false))
+    elim c.if-parts_names.branch [
+      | then-parts-names w ↦ subst (λ k. Follows (drafted text (i + 1)) text k (i + 1) s' (sketch p')) (sym w.from-is) (follows-parted text from i s s' p (sketch p') high c.loop-i.invariant h.state h.sketch (sym c.parts_names.ensures ∙ w.if-parts_names.true))
+      | else-parts-names w ↦ subst (λ k. Follows (drafted text (i + 1)) text k (i + 1) s' (sketch p')) (sym w.from-is) (follows_on text from i s s' p (sketch p') high c.loop-i.invariant h.state h.sketch (sym c.parts_names.ensures ∙ w.if-parts_names.false))
     ]
 
 pub byte-requires-2 : goal.byte-requires-2

@@ -7,18 +7,18 @@ use Rattle.positions.proofs.Rule.{low_fits}
 use Rattle.positions.proofs.Listing.{queries_few}
 use Rattle.positions.proofs.moves.Moves.of.Goals as goal
 
-pub invariant-of-result : goal.invariant-of-result
-invariant-of-result c =
+pub invariant_of-result : goal.invariant_of-result
+invariant_of-result c =
     let q = c.args.queries.now in
     let ps = c.positions.result.now in (
-      ap length c.fit-masks.ensures ∙ length_tab (fit_mask ps) 16,
+      ap length c.fit_masks.ensures ∙ length_tab (fit_mask ps) 16,
       (
         (λ k h. subst (λ x. x < 2 ^ 31)
-            (sym (ap (λ xs. get_or xs k 0) c.fit-masks.ensures ∙ get_or-tab (fit_mask ps) 16 k 0 h ∙ ap (λ zs. fit_mask zs k) c.positions.ensures.list))
+            (sym (ap (λ xs. get_or xs k 0) c.fit_masks.ensures ∙ get_or-tab (fit_mask ps) 16 k 0 h ∙ ap (λ zs. fit_mask zs k) c.positions.ensures.list))
             (low_fits (listed_names q) (queries_of q) 31 (queries_few q) k)),
         (omega arith, tt),
       ),
     )
 
 pub returns : goal.returns
-returns c = record { fits = c.fit-masks.ensures ∙ ap fit_masks c.positions.ensures.list; stays = search rules }
+returns c = record { fits = c.fit_masks.ensures ∙ ap fit_masks c.positions.ensures.list; stays = search rules }

@@ -6,7 +6,7 @@ use Rattle.reading.proofs.opens.Opens.pop.Goals as goal
 pub returns : goal.returns
 returns c =
     let o = c.args.self.now in
-    let t = c.cell-before-t in
+    let t = c.cell_before-t in
     let some = c.if-self-eq0.false in
     record {
       sound = record {

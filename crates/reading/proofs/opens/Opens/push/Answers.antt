@@ -6,7 +6,7 @@ use Rattle.reading.proofs.opens.Opens.push.Goals as goal
 pub returns-then-self-lt4096 : goal.returns-then-self-lt4096
 returns-then-self-lt4096 c =
     let o = c.args.self.now in
-    let t = c.cell-after-self in
+    let t = c.cell_after-self in
     record {
       sound = record {
         count = omega (arith, c.if-self-lt4096.true);
@@ -19,7 +19,7 @@ returns-then-self-lt4096 c =
 pub returns-else-self-lt4096 : goal.returns-else-self-lt4096
 returns-else-self-lt4096 c =
     let o = c.args.self.now in
-    let t = c.cell-after-self in
+    let t = c.cell_after-self in
     record {
       sound = record {
         count = c.requires.count;

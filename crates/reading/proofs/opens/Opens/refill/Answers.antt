@@ -28,7 +28,7 @@ loop-i-preserved-in-Open c =
 pub loop-i-preserved : goal.loop-i-preserved
 loop-i-preserved c =
     let l = c.loop-i in
-    (l.invariant.0, l.invariant.1, omega (arith, l.invariant.2), links_past c.args.rows.now c.args.end (ring l.self.cells 0 l.self.count) l.i c.loop-i-test.true c.in-default.not-Open l.invariant.3)
+    (l.invariant.0, l.invariant.1, omega (arith, l.invariant.2), links_past c.args.rows.now c.args.end (ring l.self.cells 0 l.self.count) l.i c.loop-i-test.true c.in_default.not-Open l.invariant.3)
 
 none_left : (i : ℕ) → eqb i 0 ≡ true → i ≡ 0
 none_left i e = grind (arith, nat_tests)

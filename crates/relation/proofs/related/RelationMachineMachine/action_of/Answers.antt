@@ -15,8 +15,8 @@ loop-i-preserved c =
     filled_more (λ k. moved_on m.fits m.stays (2 ^ k) c.column-column.result) c.loop-i.rows 32 c.loop-i.i _ 0 (omega arith)
     (c.on.ensures ∙ ap (λ b. moved_on m.fits m.stays b c.column-column.result) (one_shl c.loop-i.i 32 (omega arith))) c.loop-i.invariant
 
-pub invariant-of-result : goal.invariant-of-result
-invariant-of-result c =
+pub invariant_of-result : goal.invariant_of-result
+invariant_of-result c =
     let m = c.args.self.now in
     let f = λ (b k : ℕ). moved_on m.moves.fits m.moves.stays (2 ^ b) k in
     (c.loop-i.invariant.0, (λ k h. subst (λ x. x < 2 ^ 32) (sym (c.loop-i.invariant.1 k (omega arith) ∙ ap (f k) c.column-column.ensures)) (moves_lt m c.args.name.now (2 ^ k)), tt))

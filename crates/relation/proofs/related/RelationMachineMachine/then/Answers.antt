@@ -4,8 +4,8 @@ use Rattle.positions.proofs.Pickings.{picked-lt}
 use Rattle.relation.specs.Relations.{same-action}
 use Rattle.relation.proofs.related.RelationMachineMachine.then.Goals as goal
 
-pub invariant-of-result : goal.invariant-of-result
-invariant-of-result c =
+pub invariant_of-result : goal.invariant_of-result
+invariant_of-result c =
     let b = c.args.b.now in
     (c.loop-i.invariant.0, (λ k h. subst (λ x. x < 2 ^ 32) (sym (c.loop-i.invariant.1 k (omega arith))) (picked-lt 32 (get_or c.args.a.now.rows k 0) b.rows (λ j l. b.low j (omega (arith, b.size)))), tt))
 

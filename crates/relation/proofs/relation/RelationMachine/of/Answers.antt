@@ -12,7 +12,7 @@ returns c =
     let qs = queries_of q in
     let e = sym c.names.ensures.list in
     let fits = c.of-moves.ensures.fits in
-    let stays = c.of-moves.ensures.stays ∙ c.rest-mask-stays.ensures ∙ ap (rest_mask 32) c.positions.ensures.list in
+    let stays = c.of-moves.ensures.stays ∙ c.rest_mask-stays.ensures ∙ ap (rest_mask 32) c.positions.ensures.list in
     let lines = c.of-lines.ensures in
     record {
       named = c.names.ensures.list;

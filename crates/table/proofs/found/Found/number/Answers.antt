@@ -9,7 +9,7 @@ pub returns-then-self-eq-MOST-STATES : goal.returns-then-self-eq-MOST-STATES
 unfolding seen
 returns-then-self-eq-MOST-STATES c =
     let f = c.args.self.now in
-    let at : c.place-of-at.result ≡ place c.args.set (seen f) = search rules in
+    let at : c.place_of-at.result ≡ place c.args.set (seen f) = search rules in
     let n = added-length f.sets f.count c.args.set (omega arith) (omega arith) in
     (omega arith, refl)
 
@@ -17,13 +17,13 @@ pub returns : goal.returns
 unfolding seen
 returns c =
     let f = c.args.self.now in
-    let at : c.place-of-at.result ≡ place c.args.set (seen f) = search rules in
+    let at : c.place_of-at.result ≡ place c.args.set (seen f) = search rules in
     (at, added-write f.sets f.count c.args.set (omega arith) (omega arith))
 
 pub returns-then-at-self : goal.returns-then-at-self
 unfolding seen
 returns-then-at-self c =
     let f = c.args.self.now in
-    let at : c.place-of-at.result ≡ place c.args.set (seen f) = search rules in
+    let at : c.place_of-at.result ≡ place c.args.set (seen f) = search rules in
     let n = length-take-le f.count f.sets (omega arith) in
     (at, sym (added-old (seen f) c.args.set (omega arith)))
