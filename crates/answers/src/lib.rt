@@ -1,4 +1,7 @@
 //! What a whole file answers, and why reading it in pieces gives the same.
+
+#![tactic(auto)]
+
 pub mod fault;
 pub mod laws;
 pub mod matches;

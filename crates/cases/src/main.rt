@@ -1,4 +1,7 @@
 //! Reads cases, each a query text and a document, and lists what every document answers. A listing is printed if all ways of reading the document agree on it.
+
+#![tactic(auto)]
+
 mod given;
 
 use crate::given::{Case, next_case};

@@ -1,4 +1,7 @@
 //! Reads one file in many ways, which must all tell the same.
+
+#![tactic(auto)]
+
 pub mod told;
 pub mod ways;
 

@@ -1,4 +1,7 @@
 //! What a whole file's piece answers: a fault, or the matches of its rows.
+
+#![tactic(auto)]
+
 pub mod answering;
 pub mod closing;
 pub mod matching;

@@ -1,4 +1,7 @@
 //! The reader of tags against XML's grammar.
+
+#![tactic(auto)]
+
 ghost use Rattle.tags.specs.Marks.{part};
 ghost use Rattle.tags.specs.Reads.{shown};
 ghost use Rattle.grammar.specs.Laws.{TagsExact, FaultsExact, CausesApart, Told};

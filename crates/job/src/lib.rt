@@ -1,4 +1,7 @@
 //! A file read in pieces: a job, and its calls.
+
+#![tactic(auto)]
+
 pub mod answer;
 pub mod job;
 pub mod piece;

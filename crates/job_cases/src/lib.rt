@@ -1,4 +1,7 @@
 //! Calls at the edges of their questions, and files worked through.
+
+#![tactic(auto)]
+
 #[cfg(test)]
 mod asked;
 #[cfg(test)]

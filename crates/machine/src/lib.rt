@@ -1,4 +1,7 @@
 //! What a machine for path queries is: its interface and its laws, the path rule, and the queries of a text.
+
+#![tactic(auto)]
+
 mod build;
 pub mod laws;
 mod lookup;

@@ -1,5 +1,8 @@
 //! Finds the elements of an XML file that meet path queries. Standard input has a line of rising cut places, the query lines,
 //! an empty line, and the file, which is read in pieces cut at those places, from the last back.
+
+#![tactic(auto)]
+
 use session::print_of;
 use std::io;
 use std::io::Read;

@@ -1,4 +1,7 @@
 //! Sets of the positions of queries, as masks: how a name moves them, and which queries they meet.
+
+#![tactic(auto)]
+
 mod building;
 mod laws;
 mod lines;

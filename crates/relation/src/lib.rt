@@ -1,4 +1,7 @@
 //! The machine of relations: its action says of each pair of positions whether the first leads to the second.
+
+#![tactic(auto)]
+
 mod action;
 mod compose;
 mod make;

@@ -1,4 +1,7 @@
 //! What the program's input says: where to cut the file, the queries, and the file.
+
+#![tactic(auto)]
+
 pub mod cuts;
 pub mod forms;
 pub mod input;

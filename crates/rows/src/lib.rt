@@ -1,4 +1,7 @@
 //! What a piece of a file holds: rows, each with its action in a list beside, and perhaps a fault.
+
+#![tactic(auto)]
+
 pub mod keeping;
 pub mod names;
 pub mod part;

@@ -1,4 +1,7 @@
 //! What any list of calls of a job comes to.
+
+#![tactic(auto)]
+
 pub mod running;
 pub mod steps;
 

@@ -1,4 +1,7 @@
 //! The program's work: an input's file is read in pieces, cut where the input says, and what came of it is listed.
+
+#![tactic(auto)]
+
 pub mod answering;
 pub mod printing;
 

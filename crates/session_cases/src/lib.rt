@@ -1,4 +1,7 @@
 //! The program's inputs: how they are read, and what is printed for them.
+
+#![tactic(auto)]
+
 #[cfg(test)]
 mod listings;
 #[cfg(test)]

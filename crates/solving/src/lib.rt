@@ -1,4 +1,7 @@
 //! A file read in pieces by a plan of calls, and what came of it.
+
+#![tactic(auto)]
+
 pub mod outcome;
 pub mod plan;
 pub mod solving;

@@ -1,4 +1,7 @@
 //! The table machine: its states are the sets of positions that arise, and its action leads each state to one.
+
+#![tactic(auto)]
+
 mod action;
 mod explore;
 mod fill;

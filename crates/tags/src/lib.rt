@@ -1,4 +1,7 @@
 //! Marks and tags: where the tags of an XML file begin, and what each one says.
+
+#![tactic(auto)]
+
 pub mod marks;
 pub mod reader;
 pub mod tag;

@@ -1,6 +1,9 @@
 //! Measures how fast files of several shapes are read in parts, joined and finished, by both machines.
 //! `throughput MEBIBYTES PARTS` measures every shape, and with a shape after these only that one;
 //! `throughput MEBIBYTES SHAPE` writes a file of that shape to standard output.
+
+#![tactic(auto)]
+
 mod shape;
 mod timing;
 
