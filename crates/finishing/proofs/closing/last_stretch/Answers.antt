@@ -12,7 +12,7 @@ pub returns-in_err-row : goal.returns-in_err-row
 returns-in_err-row g c =
     let m = stored (g.M.Machine.model c.args.m.now) in
     let es = paired c.args.rows.now c.args.actions.now in
-    let e = err_from_is_err_and c.from-residual.result c.from-residual.ensures.1 in
+    let e = err_from_is_err_and c.from_residual.result c.from_residual.ensures.1 in
     ap (answered m es) e.1 ∙ ap Err e.2
     ∙ sym (bad_last m c.args.file.now es (no-close m c.args.rows.now c.args.actions.now c.requires.sizes c.requires.none) c.in_err-row.field-0.0)
     ∙ ap (λ y. finish m (put c.args.file.now m (open_content es) y)) c.in_err-row.ensures.made

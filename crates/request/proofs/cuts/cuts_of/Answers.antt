@@ -60,8 +60,8 @@ pub returns-in_err-push : goal.returns-in_err-push
 returns-in_err-push c =
     let rest = c.loop-place.rest.now in
     let to = c.bytes_before-to.result in
-    let e = err_from_is_err_and c.from-residual.result c.from-residual.ensures.1 in
-    let is : c.from-residual.result ≡ Err NoMemory = e.1 ∙ ap Err e.2 in
+    let e = err_from_is_err_and c.from_residual.result c.from_residual.ensures.1 in
+    let is : c.from_residual.result ≡ Err NoMemory = e.1 ∙ ap Err e.2 in
     let first = first-place c.loop-place.invariant.2 c.bytes_before-to.ensures.before (from_start to rest) c.in-Some.place c.in-Some.ensures in
     record {
       cuts = subst (λ r. LineSays r (cuts_of c.args.line.now)) (sym is) tt;

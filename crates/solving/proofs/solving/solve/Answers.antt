@@ -24,8 +24,8 @@ returns g c =
 pub returns-in_err-steps : goal.returns-in_err-steps
 returns-in_err-steps g c =
     let a = c.args in
-    let e = err_from_is_err_and c.from-residual.result c.from-residual.ensures.1 in
+    let e = err_from_is_err_and c.from_residual.result c.from_residual.ensures.1 in
     record {
       solved = subst (λ r. IfOk r (λ o. SolveSays (g.M.Machine.model a.m.now) (plan_of a.cuts.now (length a.file.now)) a.file.now a.rows.now a.actions.now a.matches.now o a.rows.now a.actions.now a.matches.now)) (sym e.1) tt;
-      kept = (kept_same c.from-residual.result _, kept_same c.from-residual.result _, kept_same c.from-residual.result _);
+      kept = (kept_same c.from_residual.result _, kept_same c.from_residual.result _, kept_same c.from_residual.result _);
     }

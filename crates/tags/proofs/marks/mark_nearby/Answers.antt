@@ -16,5 +16,5 @@ loop-at-preserved c = (
 pub returns : goal.returns
 returns c =
     let file = c.args.file.now in
-    let whole = between-clipped file c.args.from c.args.to c.loop-at.at (omega arith) (λ h. omega (arith, c.loop-at.auto.at_end)) (λ h. c.loop-at.invariant.1 (omega arith)) in
+    let whole = between-clipped file c.args.from c.args.to c.loop-at.at (omega arith) (λ h. omega (arith, c.loop-at.auto.at-end)) (λ h. c.loop-at.invariant.1 (omega arith)) in
     sym (ap (first_or c.args.to) (sym (ap (λ l. marks l c.args.from) whole) ∙ c.loop-at.invariant.0))

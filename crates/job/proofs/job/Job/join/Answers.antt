@@ -9,13 +9,13 @@ use Rattle.job.proofs.job.Job.join.Goals as goal
 
 pub returns-in_err-l : goal.returns-in_err-l
 returns-in_err-l g c =
-    let p = err_from_is_err_and c.from-residual.result c.from-residual.ensures.1 in
+    let p = err_from_is_err_and c.from_residual.result c.from_residual.ensures.1 in
     let a = c.args in
     let w = world a.self.now a.rows.now a.actions.now in
-    let is : c.from-residual.result ≡ Err c.in_err-l.field-0.0 = cc in
+    let is : c.from_residual.result ≡ Err c.in_err-l.field-0.0 = cc in
     record {
-      says = refused-turns (asked_join a.file.now w a.left a.right) _ c.ask_join.result c.in_err-l.field-0.0 c.from-residual.result w _ c.ask_join.ensures c.in_err-l.was is;
-      kept = unchanged c.from-residual.result c.in_err-l.field-0.0 a.self.now is;
+      says = refused-turns (asked_join a.file.now w a.left a.right) _ c.ask_join.result c.in_err-l.field-0.0 c.from_residual.result w _ c.ask_join.ensures c.in_err-l.was is;
+      kept = unchanged c.from_residual.result c.in_err-l.field-0.0 a.self.now is;
     }
 
 pub join-kept-requires : goal.join-kept-requires

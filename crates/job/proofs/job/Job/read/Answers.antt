@@ -10,13 +10,13 @@ use Rattle.job.proofs.job.Job.read.Goals as goal
 
 pub returns-in_err-marks : goal.returns-in_err-marks
 returns-in_err-marks g c =
-    let p = err_from_is_err_and c.from-residual.result c.from-residual.ensures.1 in
+    let p = err_from_is_err_and c.from_residual.result c.from_residual.ensures.1 in
     let a = c.args in
     let w = world a.self.now a.rows.now a.actions.now in
-    let is : c.from-residual.result ≡ Err c.in_err-marks.field-0.0 = cc in
+    let is : c.from_residual.result ≡ Err c.in_err-marks.field-0.0 = cc in
     record {
-      says = refused-turns (asked_read a.file.now w a.from a.to) (scanned a.file.now a.from a.to) c.ask_read.result c.in_err-marks.field-0.0 c.from-residual.result w _ c.ask_read.ensures c.in_err-marks.was is;
-      kept = unchanged c.from-residual.result c.in_err-marks.field-0.0 a.self.now is;
+      says = refused-turns (asked_read a.file.now w a.from a.to) (scanned a.file.now a.from a.to) c.ask_read.result c.in_err-marks.field-0.0 c.from_residual.result w _ c.ask_read.ensures c.in_err-marks.was is;
+      kept = unchanged c.from_residual.result c.in_err-marks.field-0.0 a.self.now is;
     }
 
 pub read-kept-requires : goal.read-kept-requires

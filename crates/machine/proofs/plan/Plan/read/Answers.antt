@@ -23,7 +23,7 @@ pub returns-in_err-byte : goal.returns-in_err-byte
 returns-in_err-byte c =
     let text = c.args.text.now in
     let i = c.loop-i.i in
-    let p = err_from_is_err_and c.from-residual.result c.from-residual.ensures.1 in
+    let p = err_from_is_err_and c.from_residual.result c.from_residual.ensures.1 in
     let h = c.in_err-byte.ensures.sketch in
     rw (p.1, p.2) (h.0, unfit text (drafted text i) c.loop-i.from i c.loop-i.reader.state c.loop-i.self (get_or text i 0) c.loop-i.invariant (ahead_more text i (omega arith)) h.1)
 

@@ -39,7 +39,7 @@ returns-in_err-read c =
     let w : closes (reads_as text).state ≡ true = ap closes (sym c.of-measure.ensures.state) ∙ sym c.if-not-is_whole.ensures in
     let l : length (reads_as text).lines ≤ 8 = omega (arith, c.of-measure.ensures.lines) in
     let few : size_in (reads_as text) ≤ 32 = omega (arith, c.of-measure.ensures.positions) in
-    let p = err_from_is_err_and c.from-residual.result c.from-residual.ensures.1 in
+    let p = err_from_is_err_and c.from_residual.result c.from_residual.ensures.1 in
     let h = c.in_err-read.ensures in
     record {
       answer = rw (p.1, p.2) (subst (Refused text) (sym h.0) (names_over text (omega arith) w l few h.1));

@@ -16,7 +16,7 @@ returns-in_err-states c =
     let stays = c.of-moves.ensures.stays ∙ c.deep_mask-stays.ensures ∙ ap deep_mask c.positions.ensures.list in
     let start = c.start_mask-start.ensures ∙ ap (λ ps. mask (start_bits true ps)) c.positions-2.ensures.list in
     let many = many-of (listed_names q) (queries_of q) c.of-moves.result c.start_mask-start.result (c.name_count.result + 1) c.of-moves.ensures.fits stays start (ap (λ n. n + 1) c.name_count.ensures.number) c.in_err-states.ensures in
-    subst (λ o. MatchOption o (TooMany (listed_names q) (queries_of q)) (TableOf q)) (sym c.from-residual.ensures) many
+    subst (λ o. MatchOption o (TooMany (listed_names q) (queries_of q)) (TableOf q)) (sym c.from_residual.ensures) many
 
 pub returns : goal.returns
 returns c =
