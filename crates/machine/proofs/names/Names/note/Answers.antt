@@ -5,8 +5,8 @@ use Rattle.machine.proofs.Columns.{noted-new, noted-old, column-last, column-le,
 use Rattle.machine.proofs.Viewed.{length-names}
 use Rattle.machine.proofs.names.Names.note.Goals as goal
 
-pub returns-then-name-gt-LONGEST-NAME : goal.returns-then-name-gt-LONGEST-NAME
-returns-then-name-gt-LONGEST-NAME c = (refl, long_name (names_of c.args.self.now) c.args.name.now (omega arith))
+pub returns-then-name-gt-LONGEST_NAME : goal.returns-then-name-gt-LONGEST_NAME
+returns-then-name-gt-LONGEST_NAME c = (refl, long_name (names_of c.args.self.now) c.args.name.now (omega arith))
 
 pub returns-then-column-gt0 : goal.returns-then-column-gt0
 returns-then-column-gt0 c =

@@ -39,8 +39,8 @@ loop-i-preserved c =
     let h = c.in_ok-byte.ensures in
     let high : i < length text = omega arith in
     elim c.if-parts_names.branch [
-      | then-parts-names w ↦ subst (λ k. Follows (drafted text (i + 1)) text k (i + 1) s' (sketch p')) (sym w.from-is) (follows-parted text from i s s' p (sketch p') high c.loop-i.invariant h.state h.sketch (sym c.parts_names.ensures ∙ w.if-parts_names.true))
-      | else-parts-names w ↦ subst (λ k. Follows (drafted text (i + 1)) text k (i + 1) s' (sketch p')) (sym w.from-is) (follows_on text from i s s' p (sketch p') high c.loop-i.invariant h.state h.sketch (sym c.parts_names.ensures ∙ w.if-parts_names.false))
+      | then-parts_names w ↦ subst (λ k. Follows (drafted text (i + 1)) text k (i + 1) s' (sketch p')) (sym w.from-is) (follows-parted text from i s s' p (sketch p') high c.loop-i.invariant h.state h.sketch (sym c.parts_names.ensures ∙ w.if-parts_names.true))
+      | else-parts_names w ↦ subst (λ k. Follows (drafted text (i + 1)) text k (i + 1) s' (sketch p')) (sym w.from-is) (follows_on text from i s s' p (sketch p') high c.loop-i.invariant h.state h.sketch (sym c.parts_names.ensures ∙ w.if-parts_names.false))
     ]
 
 pub byte-requires-2 : goal.byte-requires-2

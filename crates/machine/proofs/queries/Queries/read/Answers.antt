@@ -6,8 +6,8 @@ use Rattle.machine.specs.Sketches.{size_in}
 use Rattle.machine.proofs.Answering.{not-whole, once, parsed, size_is, plan-whole, plan-known, plan-ending, accepted, names_over}
 use Rattle.machine.proofs.queries.Queries.read.Goals as goal
 
-pub returns-then-text-gt-MOST-BYTES : goal.returns-then-text-gt-MOST-BYTES
-returns-then-text-gt-MOST-BYTES c = record { answer = omega arith; once = once c.args.text.now }
+pub returns-then-text-gt-MOST_BYTES : goal.returns-then-text-gt-MOST_BYTES
+returns-then-text-gt-MOST_BYTES c = record { answer = omega arith; once = once c.args.text.now }
 
 pub returns-then-not-is_whole : goal.returns-then-not-is_whole
 returns-then-not-is_whole c =
@@ -23,8 +23,8 @@ returns-then-not-is_whole c =
       once = once text;
     }
 
-pub returns-then-measure-gt-MOST-POSITIONS : goal.returns-then-measure-gt-MOST-POSITIONS
-returns-then-measure-gt-MOST-POSITIONS c =
+pub returns-then-measure-gt-MOST_POSITIONS : goal.returns-then-measure-gt-MOST_POSITIONS
+returns-then-measure-gt-MOST_POSITIONS c =
     let text = c.args.text.now in
     let w : closes (reads_as text).state ≡ true = ap closes (sym c.of-measure.ensures.state) ∙ sym c.if-not-is_whole.ensures in
     let l : length (reads_as text).lines ≤ 8 = omega (arith, c.of-measure.ensures.lines) in
@@ -53,7 +53,7 @@ invariant_of-result c =
     let l : length (reads_as text).lines ≤ 8 = omega (arith, c.of-measure.ensures.lines) in
     let p = c.read.new.self in
     let e = c.in_ok-read.ensures in
-    (plan-whole text w l p e, (plan-known text w l p e, (plan-ending text w l p e, tt)))
+    record { whole = plan-whole text w l p e; known = plan-known text w l p e; ending = plan-ending text w l p e }
 
 pub returns : goal.returns
 returns c =

@@ -5,9 +5,9 @@ use Rattle.std.proofs.lemmas.List.{length-take-le}
 use Rattle.table.proofs.Places.{added-write, added-length, added-old}
 use Rattle.table.proofs.found.Found.number.Goals as goal
 
-pub returns-then-self-eq-MOST-STATES : goal.returns-then-self-eq-MOST-STATES
+pub returns-then-self-eq-MOST_STATES : goal.returns-then-self-eq-MOST_STATES
 unfolding seen
-returns-then-self-eq-MOST-STATES c =
+returns-then-self-eq-MOST_STATES c =
     let f = c.args.self.now in
     let at : c.place_of-at.result ≡ place c.args.set (seen f) = search rules in
     let n = added-length f.sets f.count c.args.set (omega arith) (omega arith) in
