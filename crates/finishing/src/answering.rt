@@ -22,7 +22,7 @@ pub fn count_answer<M: Machine>(
     requires sizes { length rows.now ≡ length actions.now }
     requires within { part.at + part.kept.rows ≤ length rows.now }
     requires few { part.kept.rows ≤ 4294967296 }
-    ensures { result ≡ length (row_matches (stored (model m.now)) ((held rows.now actions.now part).rows ++ last_row more)) }
+    ensures { result ≡ length (row_matches (stored (M.model m.now)) ((held rows.now actions.now part).rows ++ last_row more)) }
 {
     let from = part.at;
     let to = from + part.kept.rows;
@@ -44,8 +44,8 @@ pub fn write_answer<M: Machine>(
 )
     requires sizes { length rows.now ≡ length actions.now }
     requires within { part.at + part.kept.rows ≤ length rows.now }
-    requires room { length (row_matches (stored (model m.now)) ((held rows.now actions.now part).rows ++ last_row more)) ≤ length matches.old }
-    ensures { matches.new ≡ splice 0 (row_matches (stored (model m.now)) ((held rows.now actions.now part).rows ++ last_row more)) matches.old }
+    requires room { length (row_matches (stored (M.model m.now)) ((held rows.now actions.now part).rows ++ last_row more)) ≤ length matches.old }
+    ensures { matches.new ≡ splice 0 (row_matches (stored (M.model m.now)) ((held rows.now actions.now part).rows ++ last_row more)) matches.old }
 {
     let from = part.at;
     let to = from + part.kept.rows;

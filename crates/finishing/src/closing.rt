@@ -52,7 +52,7 @@ fn end_tag<M: Machine>(
     requires own { Inside file.now row }
     requires kind { row.kind ≡ RowKind.Close }
     requires none { first_close_row rows.now ≡ None }
-    ensures { answered (stored (model m.now)) (paired rows.now actions.now) result ≡ finish (stored (model m.now)) (put file.now (stored (model m.now)) (open_content (paired rows.now actions.now)) (lone row plain.now)) }
+    ensures { answered (stored (M.model m.now)) (paired rows.now actions.now) result ≡ finish (stored (M.model m.now)) (put file.now (stored (M.model m.now)) (open_content (paired rows.now actions.now)) (lone row plain.now)) }
 {
     let Some(i) = last_open(rows, rows.len()) else {
         return Err(Fault::Stray {
@@ -82,7 +82,7 @@ fn last_stretch<M: Machine>(
     requires sizes { length rows.now ≡ length actions.now }
     requires rule { (k : ℕ) → k < length rows.now → Inside file.now (at rows.now k) }
     requires none { first_close_row rows.now ≡ None }
-    ensures { answered (stored (model m.now)) (paired rows.now actions.now) result ≡ finish (stored (model m.now)) (put file.now (stored (model m.now)) (open_content (paired rows.now actions.now)) (one file.now (stored (model m.now)) (mark, length file.now))) }
+    ensures { answered (stored (M.model m.now)) (paired rows.now actions.now) result ≡ finish (stored (M.model m.now)) (put file.now (stored (M.model m.now)) (open_content (paired rows.now actions.now)) (one file.now (stored (M.model m.now)) (mark, length file.now))) }
 {
     let (row, plain) = tag_row(m, file, mark, file.len())?;
     match row.kind {
@@ -111,7 +111,7 @@ fn ending_of<M: Machine>(
     requires bytes { length file.now < 4294967296 }
     requires sizes { length rows.now ≡ length actions.now }
     requires rule { (k : ℕ) → k < length rows.now → Inside file.now (at rows.now k) }
-    ensures { answered (stored (model m.now)) (paired rows.entry.now actions.now) result ≡ finish (stored (model m.now)) (last_put file.now (stored (model m.now)) (first, last, marks) (record { rows = paired rows.entry.now actions.now; fault = fault })) }
+    ensures { answered (stored (M.model m.now)) (paired rows.entry.now actions.now) result ≡ finish (stored (M.model m.now)) (last_put file.now (stored (M.model m.now)) (first, last, marks) (record { rows = paired rows.entry.now actions.now; fault = fault })) }
 {
     if let Some(place) = first_close(rows) {
         return Err(Fault::Stray { place });
@@ -140,7 +140,7 @@ pub fn ending<M: Machine>(
     requires sizes { length rows.now ≡ length actions.now }
     requires within { part.at + part.kept.rows ≤ length rows.now }
     requires rule { RowRule file.now rows.now part.at part.kept.rows }
-    ensures { answered (stored (model m.now)) (held rows.now actions.now part).rows result ≡ finish (stored (model m.now)) (last_put file.now (stored (model m.now)) (ends_of part) (held rows.now actions.now part)) }
+    ensures { answered (stored (M.model m.now)) (held rows.now actions.now part).rows result ≡ finish (stored (M.model m.now)) (last_put file.now (stored (M.model m.now)) (ends_of part) (held rows.now actions.now part)) }
 {
     let from = part.at;
     let to = from + part.kept.rows;

@@ -11,7 +11,7 @@ use rows::Row;
 
 /// The queries that a plain form's action marks.
 pub fn marked<M: Machine>(m: &M, plain: &M::Plain) -> [bool; 8]
-    ensures { result ≡ (stored (model m.now)).marks plain.now }
+    ensures { result ≡ (stored (M.model m.now)).marks plain.now }
 {
     let action = m.back(plain);
     m.marks(&action)
@@ -35,7 +35,7 @@ pub fn count_set(set: &[bool; 8]) -> usize
 pub fn count_matches<M: Machine>(m: &M, rows: &[Row], actions: &[M::Plain]) -> usize
     requires sizes { length rows.now ≡ length actions.now }
     requires few { length rows.now ≤ 4294967296 }
-    ensures number { result ≡ length (row_matches (stored (model m.now)) (paired rows.now actions.now)) }
+    ensures number { result ≡ length (row_matches (stored (M.model m.now)) (paired rows.now actions.now)) }
     ensures few { result ≤ 8 * length rows.now }
 {
     let mut n = 0;
@@ -73,9 +73,9 @@ pub fn write_matches<M: Machine>(
     at: usize,
 ) -> usize
     requires sizes { length rows.now ≡ length actions.now }
-    requires room { at + length (row_matches (stored (model m.now)) (paired rows.now actions.now)) ≤ length matches.old }
-    ensures written { matches.new ≡ splice at (row_matches (stored (model m.now)) (paired rows.now actions.now)) matches.old }
-    ensures end { result ≡ at + length (row_matches (stored (model m.now)) (paired rows.now actions.now)) }
+    requires room { at + length (row_matches (stored (M.model m.now)) (paired rows.now actions.now)) ≤ length matches.old }
+    ensures written { matches.new ≡ splice at (row_matches (stored (M.model m.now)) (paired rows.now actions.now)) matches.old }
+    ensures end { result ≡ at + length (row_matches (stored (M.model m.now)) (paired rows.now actions.now)) }
 {
     let mut n = at;
     for i in 0..rows.len() {

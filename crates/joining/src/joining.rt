@@ -39,7 +39,7 @@ fn put_at<M: Machine>(
     requires based { Based (drop used rows.old) left base }
     requires names { (k : ℕ) → k < left → Inside file.now (at (drop used rows.old) k) }
     requires own { Inside file.now row }
-    ensures taken { state (paired (drop used rows.new) (drop used actions.new)) left (grown result n) (stopped result row) ≡ take_row file.now (stored (model m.now)) (state (paired (drop used rows.old) (drop used actions.old)) left n None) (entry row plain.now) }
+    ensures taken { state (paired (drop used rows.new) (drop used actions.new)) left (grown result n) (stopped result row) ≡ take_row file.now (stored (M.model m.now)) (state (paired (drop used rows.old) (drop used actions.old)) left n None) (entry row plain.now) }
     ensures rows { drop used rows.new ≡ wrote result base n row (drop used rows.old) }
     ensures old { (take used rows.new ≡ take used rows.old) × (take used actions.new ≡ take used actions.old) }
 {
@@ -103,7 +103,7 @@ fn take_rows<M: Machine>(
     requires room { used + left + count ≤ length rows.old }
     requires names { (k : ℕ) → k < left → Inside file.now (at (drop used rows.old) k) }
     requires own { (k : ℕ) → k < count → Inside file.now (at rows.old (from + k)) }
-    ensures taken { state (paired (drop used rows.new) (drop used actions.new)) left result.rows result.stop ≡ run file.now (stored (model m.now)) (take left (paired (drop used rows.old) (drop used actions.old))) (take count (drop from (paired rows.old actions.old))) }
+    ensures taken { state (paired (drop used rows.new) (drop used actions.new)) left result.rows result.stop ≡ run file.now (stored (M.model m.now)) (take left (paired (drop used rows.old) (drop used actions.old))) (take count (drop from (paired rows.old actions.old))) }
     ensures within { (left ≤ result.rows) × (result.rows ≤ left + count) }
     ensures old { (take used rows.new ≡ take used rows.old) × (take used actions.new ≡ take used actions.old) }
 {
@@ -158,7 +158,7 @@ fn put_part<M: Machine>(
     requires room { used + x.rows + part.kept.rows ≤ length rows.old }
     requires rule { RowRule file.now rows.old used x.rows }
     requires own { RowRule file.now rows.old part.at part.kept.rows }
-    ensures put { kept_at rows.new actions.new used result ≡ put file.now (stored (model m.now)) (kept_at rows.old actions.old used x) (held rows.old actions.old part) }
+    ensures put { kept_at rows.new actions.new used result ≡ put file.now (stored (M.model m.now)) (kept_at rows.old actions.old used x) (held rows.old actions.old part) }
     ensures within { result.rows ≤ x.rows + part.kept.rows }
     ensures old { (take used rows.new ≡ take used rows.old) × (take used actions.new ≡ take used actions.old) }
 {
@@ -194,7 +194,7 @@ fn put_stretch<M: Machine>(
     requires sizes { length rows.old ≡ length actions.old }
     requires room { used + x.rows < length rows.old }
     requires rule { RowRule file.now rows.old used x.rows }
-    ensures put { kept_at rows.new actions.new used result ≡ put file.now (stored (model m.now)) (kept_at rows.old actions.old used x) (one file.now (stored (model m.now)) (mark, to)) }
+    ensures put { kept_at rows.new actions.new used result ≡ put file.now (stored (M.model m.now)) (kept_at rows.old actions.old used x) (one file.now (stored (M.model m.now)) (mark, to)) }
     ensures within { result.rows ≤ x.rows + 1 }
     ensures old { (take used rows.new ≡ take used rows.old) × (take used actions.new ≡ take used actions.old) }
 {
@@ -261,7 +261,7 @@ fn join_rows<M: Machine>(
     requires second { right.at + right.kept.rows ≤ used }
     requires few { (left.kept.rows ≤ left.marks - 1) × (right.kept.rows ≤ right.marks - 1) }
     requires rule { RowRule file.now rows.old left.at left.kept.rows × RowRule file.now rows.old right.at right.kept.rows }
-    ensures joined { kept_at rows.new actions.new used result ≡ joined_at file.now (stored (model m.now)) (ends_of left) (ends_of right) (held rows.old actions.old left) (held rows.old actions.old right) }
+    ensures joined { kept_at rows.new actions.new used result ≡ joined_at file.now (stored (M.model m.now)) (ends_of left) (ends_of right) (held rows.old actions.old left) (held rows.old actions.old right) }
     ensures few { result.rows ≤ left.marks + right.marks - 1 }
     ensures rule { RowRule file.now rows.new used result.rows }
     ensures old { (take used rows.new ≡ take used rows.old) × (take used actions.new ≡ take used actions.old) }
@@ -292,7 +292,7 @@ pub fn join<M: Machine>(
     requires below { (left.at + left.kept.rows ≤ used) × (right.at + right.kept.rows ≤ used) }
     requires few { (left.kept.rows ≤ left.marks - 1) × (right.kept.rows ≤ right.marks - 1) }
     requires rule { RowRule file.now rows.old left.at left.kept.rows × RowRule file.now rows.old right.at right.kept.rows }
-    ensures left { Leaves used (left.marks + right.marks) (joined_at file.now (stored (model m.now)) (ends_of left) (ends_of right) (held rows.old actions.old left) (held rows.old actions.old right)) result rows.old rows.new actions.old actions.new }
+    ensures left { Leaves used (left.marks + right.marks) (joined_at file.now (stored (M.model m.now)) (ends_of left) (ends_of right) (held rows.old actions.old left) (held rows.old actions.old right)) result rows.old rows.new actions.old actions.new }
     ensures few { result.rows ≤ left.marks + right.marks - 1 }
     ensures rule { RowRule file.now rows.new used result.rows }
 {

@@ -85,7 +85,7 @@ fn put_next<M: Machine>(
     requires room { reader.old.rows < length rows.old }
     requires ready { Ready file.now rows.old reader.old }
     requires own { Inside file.now row }
-    ensures put { seal (take reader.new.rows (paired rows.new actions.new)) (fault_in result) ≡ put file.now (stored (model m.now)) (so_far rows.old actions.old reader.old) (lone row plain.now) }
+    ensures put { seal (take reader.new.rows (paired rows.new actions.new)) (fault_in result) ≡ put file.now (stored (M.model m.now)) (so_far rows.old actions.old reader.old) (lone row plain.now) }
     ensures ready { Ready file.now rows.new reader.new }
     ensures few { reader.new.rows ≤ reader.old.rows + 1 }
 {
@@ -115,7 +115,7 @@ fn put_tag<'a, M: Machine>(
     requires room { reader.old.rows < length rows.old }
     requires ready { Ready file.now rows.old reader.old }
     requires own { Inside file.now (row_of mark (kind_of tag) (name_of tag)) }
-    ensures put { seal (take reader.new.rows (paired rows.new actions.new)) (fault_in result) ≡ put file.now (stored (model m.now)) (so_far rows.old actions.old reader.old) (lone (row_of mark (kind_of tag.entry) (name_of tag.entry)) ((model m.now).plain (action_of (model m.now) (kind_of tag.entry) (name_of tag.entry)))) }
+    ensures put { seal (take reader.new.rows (paired rows.new actions.new)) (fault_in result) ≡ put file.now (stored (M.model m.now)) (so_far rows.old actions.old reader.old) (lone (row_of mark (kind_of tag.entry) (name_of tag.entry)) ((M.model m.now).plain (action_of (M.model m.now) (kind_of tag.entry) (name_of tag.entry)))) }
     ensures ready { Ready file.now rows.new reader.new }
     ensures few { reader.new.rows ≤ reader.old.rows + 1 }
 {
@@ -147,7 +147,7 @@ fn read_stretch<M: Machine>(
     requires sizes { length rows.old ≡ length actions.old }
     requires room { reader.old.rows < length rows.old }
     requires ready { Ready file.now rows.old reader.old }
-    ensures put { seal (take reader.new.rows (paired rows.new actions.new)) (fault_in result) ≡ put file.now (stored (model m.now)) (so_far rows.old actions.old reader.old) (one file.now (stored (model m.now)) (mark, to)) }
+    ensures put { seal (take reader.new.rows (paired rows.new actions.new)) (fault_in result) ≡ put file.now (stored (M.model m.now)) (so_far rows.old actions.old reader.old) (one file.now (stored (M.model m.now)) (mark, to)) }
     ensures ready { Ready file.now rows.new reader.new }
     ensures few { reader.new.rows ≤ reader.old.rows + 1 }
 {
@@ -168,7 +168,7 @@ fn read_rows<M: Machine>(
     requires within { to ≤ length file.now }
     requires sizes { length rows.old ≡ length actions.old }
     requires room { length (marks_of file.now from to) ≤ length rows.old }
-    ensures read { ◌≡◌ {A = Content _} (record { rows = take result.rows (paired rows.exit.now actions.new); fault = result.fault }) (content file.now (stored (model m.now)) from to) }
+    ensures read { ◌≡◌ {A = Content _} (record { rows = take result.rows (paired rows.exit.now actions.new); fault = result.fault }) (content file.now (stored (M.model m.now)) from to) }
     ensures few { result.rows ≤ length (marks_of file.now from to) - 1 }
 {
     let mut reader = Reader::new();
@@ -206,7 +206,7 @@ pub fn read<M: Machine>(
     requires within { to ≤ length file.now }
     requires marks { marks ≡ length (marks_of file.now from to) }
     requires room { (used + marks ≤ length rows.old) × (used + marks ≤ length actions.old) }
-    ensures left { Leaves used marks (content file.now (stored (model m.now)) from to) result rows.old rows.new actions.old actions.new }
+    ensures left { Leaves used marks (content file.now (stored (M.model m.now)) from to) result rows.old rows.new actions.old actions.new }
     ensures few { result.rows ≤ marks - 1 }
     ensures rule { RowRule file.now rows.new used result.rows }
 {

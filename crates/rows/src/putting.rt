@@ -55,7 +55,7 @@ pub fn put_row<M: Machine>(
     requires based { Based rows.old left base }
     requires names { (k : ℕ) → k < left → Inside file.now (at rows.old k) }
     requires own { Inside file.now row }
-    ensures taken { state (paired rows.new actions.new) left (grown result n) (stopped result row) ≡ take_row file.now (stored (model m.now)) (state (paired rows.old actions.old) left n None) (entry row plain.now) }
+    ensures taken { state (paired rows.new actions.new) left (grown result n) (stopped result row) ≡ take_row file.now (stored (M.model m.now)) (state (paired rows.old actions.old) left n None) (entry row plain.now) }
     ensures rows { rows.new ≡ wrote result base n row rows.old }
     ensures rest { drop (grown result n) actions.new ≡ drop (grown result n) actions.old }
 {

@@ -36,7 +36,7 @@ pub fn row_of<'a>(mark: usize, tag: Tag<'a>) -> Row
 
 /// The plain form of a tag's own action.
 pub fn own_plain<'a, M: Machine>(m: &M, tag: Tag<'a>) -> M::Plain
-    ensures { result ≡ (model m.now).plain (action_of (model m.now) (kind_of tag.entry) (name_of tag.entry)) }
+    ensures { result ≡ (M.model m.now).plain (action_of (M.model m.now) (kind_of tag.entry) (name_of tag.entry)) }
 {
     let action = match tag {
         Tag::Start(name) | Tag::Empty(name) => m.action_of(name),
@@ -53,7 +53,7 @@ pub fn tag_row<M: Machine>(
     to: usize,
 ) -> Result<(Row, M::Plain), PieceFault>
     requires { length file.now < 4294967296 }
-    ensures made { content_of result ≡ one file.now (stored (model m.now)) (mark, to) }
+    ensures made { content_of result ≡ one file.now (stored (M.model m.now)) (mark, to) }
     ensures inside { IfOk result (λ t. Inside file.now t.0) }
 {
     let tag = read_tag(file, mark, to)?;

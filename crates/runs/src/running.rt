@@ -18,7 +18,7 @@ pub fn make<M: Machine>(
     matches: &mut [Match],
     call: Call,
 ) -> Reply
-    ensures { Does (model m.now) file.now (stage job.old rows.old actions.old matches.old) (answered call result) (stage job.new rows.new actions.new matches.new) }
+    ensures { Does (M.model m.now) file.now (stage job.old rows.old actions.old matches.old) (answered call result) (stage job.new rows.new actions.new matches.new) }
 {
     match call {
         Call::Read { from, to } => Reply::Made(job.read(m, file, rows, actions, from, to)),
@@ -39,7 +39,7 @@ pub fn run<M: Machine>(
     matches: &mut [Match],
     steps: &mut [Step],
 ) -> Result<(), Refusal>
-    ensures { RunSays file.now (model m.now) (lent job.old rows.old actions.old matches.old steps.old) result (lent job.new rows.new actions.new matches.new steps.new) }
+    ensures { RunSays file.now (M.model m.now) (lent job.old rows.old actions.old matches.old steps.old) result (lent job.new rows.new actions.new matches.new steps.new) }
 {
     job.open(file.len())?;
     for i in 0..steps.len() {

@@ -22,7 +22,7 @@ fn run_steps<M: Machine>(
     steps: &mut [Step],
 ) -> Outcome
     requires { FinishesLast (calls_of steps.old) }
-    ensures { SolveSays (model m.now) steps.old file.now rows.old actions.old matches.old result rows.new actions.new matches.new }
+    ensures { SolveSays (M.model m.now) steps.old file.now rows.old actions.old matches.old result rows.new actions.new matches.new }
 {
     let mut job = Job::new();
     match run(m, &mut job, file, rows, actions, matches, steps) {
@@ -41,7 +41,7 @@ pub fn solve<M: Machine>(
     actions: &mut [M::Plain],
     matches: &mut [Match],
 ) -> Result<Outcome, AllocError>
-    ensures solved { IfOk result (λ o. SolveSays (model m.now) (plan_of cuts.now (length file.now)) file.now rows.old actions.old matches.old o rows.new actions.new matches.new) }
+    ensures solved { IfOk result (λ o. SolveSays (M.model m.now) (plan_of cuts.now (length file.now)) file.now rows.old actions.old matches.old o rows.new actions.new matches.new) }
     ensures kept { Kept result rows.old rows.new × Kept result actions.old actions.new × Kept result matches.old matches.new }
 {
     let mut steps = plan_calls(heap, cuts, file.len())?;

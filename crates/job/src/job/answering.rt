@@ -27,7 +27,7 @@ pub(super) fn answer<M: Machine>(
     requires within { part.at + part.kept.rows ≤ length rows.now }
     requires rule { RowRule file.now rows.now part.at part.kept.rows }
     requires few { part.kept.rows ≤ 4294967296 }
-    ensures { AnswerSays (finish (stored (model m.now)) (last_put file.now (stored (model m.now)) (ends_of part) (held rows.now actions.now part))) matches.old result matches.new }
+    ensures { AnswerSays (finish (stored (M.model m.now)) (last_put file.now (stored (M.model m.now)) (ends_of part) (held rows.now actions.now part))) matches.old result matches.new }
 {
     let more = match ending(m, file, rows, actions, part) {
         Ok(more) => more,

@@ -39,7 +39,7 @@ impl Job {
         from: usize,
         to: usize,
     ) -> Result<usize, Refusal>
-        ensures says { ReadSays file.now (model m.now) (world self.old rows.old actions.old) from to result (world self.new rows.new actions.new) }
+        ensures says { ReadSays file.now (M.model m.now) (world self.old rows.old actions.old) from to result (world self.new rows.new actions.new) }
         ensures kept { Unchanged result self.old self.new }
     {
         let marks = self.ask_read(file, rows, actions, from, to)?;
@@ -57,7 +57,7 @@ impl Job {
         left: usize,
         right: usize,
     ) -> Result<usize, Refusal>
-        ensures says { JoinSays file.now (model m.now) (world self.old rows.old actions.old) left right result (world self.new rows.new actions.new) }
+        ensures says { JoinSays file.now (M.model m.now) (world self.old rows.old actions.old) left right result (world self.new rows.new actions.new) }
         ensures kept { Unchanged result self.old self.new }
     {
         let (l, r) = self.ask_join(file, rows, actions, left, right)?;
@@ -76,7 +76,7 @@ impl Job {
         matches: &mut [Match],
         piece: usize,
     ) -> Result<Answer, Refusal>
-        ensures { FinishSays file.now (model m.now) (world self.now rows.now actions.now) piece matches.old result matches.new }
+        ensures { FinishSays file.now (M.model m.now) (world self.now rows.now actions.now) piece matches.old result matches.new }
     {
         let p = self.ask_finish(file, rows, actions, piece)?;
         let n = rows.len().min(actions.len());

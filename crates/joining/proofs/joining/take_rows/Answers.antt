@@ -81,7 +81,7 @@ loop-k-preserved g c =
             did.old.0 ∙ l.invariant.1,
             did.old.1 ∙ l.invariant.2,
           )
-      | in-Closed+in-default w ↦
+      | in-Closed+in_default w ↦
           let did = w.in-Closed.ensures in (
             to _ _ _ _ _ w.n-is w.base-is (same_more a.file.now m (drop u a.rows.now) (drop u a.actions.now) a.left es rs rs' ps ps' l.n l.k l.base (entry row p) l.invariant.0 here read w.in_default.is did.taken did.rows),
             did.old.0 ∙ l.invariant.1,

@@ -20,7 +20,7 @@ loop-i-preserved g c =
         ap (drop n) w.rows-is ∙ drop-set-lt n l.rows l.k _ below ∙ l.invariant.1,
         ap (drop n) w.actions-is ∙ drop-set-lt n l.actions l.k _ below ∙ l.invariant.2,
       )
-      | in-default w ↦ (
+      | in_default w ↦ (
         keep-less z l.rows l.actions sizes l.k l.i l.invariant.0 here _ _ _ w.in_default.not-Close w.rows-is w.actions-is w.k-is,
         ap (drop n) w.rows-is ∙ l.invariant.1,
         ap (drop n) w.actions-is ∙ l.invariant.2,

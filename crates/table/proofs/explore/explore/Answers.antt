@@ -8,7 +8,12 @@ pub invariant_of-result : goal.invariant_of-result
 invariant_of-result c =
     let f = c.try_states.new.found in
     let h = c.if-not-try_states.ensures.1 in
-    (h.size, (filled_ok _ _ _ (seen f) c.try_states.new.next (omega (arith, length_seen f, f.within)) h, (c.columns_of-columns.ensures.0, (c.columns_of-columns.ensures.1, tt))))
+    record {
+      size = h.size;
+      ok = filled_ok _ _ _ (seen f) c.try_states.new.next (omega (arith, length_seen f, f.within)) h;
+      whole = c.columns_of-columns.ensures.0;
+      turned = c.columns_of-columns.ensures.1;
+    }
 
 pub returns-then-not-try_states : goal.returns-then-not-try_states
 unfolding seen

@@ -9,7 +9,12 @@ invariant_of-self c =
     let j = c.args.self.now in
     let b = c.requires.bytes in
     let r = c.requires.rows in
-    (j.short, (length-set j.pieces j.made _ ∙ j.room, (omega arith, (placed-more j.size j.used _ j.made j.pieces _ (omega arith) (omega arith) j.placed (b.0, b.1, omega arith, r.0, r.1), tt))))
+    record {
+      short = j.short;
+      room = length-set j.pieces j.made _ ∙ j.room;
+      few = omega arith;
+      placed = placed-more j.size j.used _ j.made j.pieces _ (omega arith) (omega arith) j.placed (b.0, b.1, omega arith, r.0, r.1);
+    }
 
 pub returns : goal.returns
 returns c =

@@ -19,7 +19,7 @@ pub invariant_of-result : goal.invariant_of-result
 invariant_of-result c =
     let m = c.args.self.now in
     let f = λ (b k : ℕ). moved_on m.moves.fits m.moves.stays (2 ^ b) k in
-    (c.loop-i.invariant.0, (λ k h. subst (λ x. x < 2 ^ 32) (sym (c.loop-i.invariant.1 k (omega arith) ∙ ap (f k) c.column-column.ensures)) (moves_lt m c.args.name.now (2 ^ k)), tt))
+    record { size = c.loop-i.invariant.0; low = λ k h. subst (λ x. x < 2 ^ 32) (sym (c.loop-i.invariant.1 k (omega arith) ∙ ap (f k) c.column-column.ensures)) (moves_lt m c.args.name.now (2 ^ k)) }
 
 pub returns : goal.returns
 returns c =

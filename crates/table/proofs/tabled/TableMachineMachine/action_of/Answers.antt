@@ -19,10 +19,11 @@ invariant_of-result c =
     let m = c.args.self.now in
     let column = c.column-column.result in
     let few : column < 16 = omega (arith, c.column-column.ensures, column-few m.names c.args.name.now) in
-    let to = c.copy_from_slice.new.self in (
-      length-column m.states column few to c.copy_from_slice.ensures.after,
-      (λ k h. subst (λ x. x < 32) (sym (leads-by-column m.states column few to c.copy_from_slice.ensures.after k h)) (next_few m k column h few), tt),
-    )
+    let to = c.copy_from_slice.new.self in
+    record {
+      size = length-column m.states column few to c.copy_from_slice.ensures.after;
+      ok = λ k h. subst (λ x. x < 32) (sym (leads-by-column m.states column few to c.copy_from_slice.ensures.after k h)) (next_few m k column h few);
+    }
 
 pub returns : goal.returns
 returns c =
