@@ -20,7 +20,7 @@ put_row-requires g c =
       within = c.requires.within;
       based = subst (λ x. Based x a.left a.base) (sym e) c.requires.based;
       names = subst (λ x. (k : ℕ) → k < a.left → Inside a.file.now (at x k)) (sym e) c.requires.names;
-      own = c.requires.own_val;
+      own = c.requires.own;
     }
 
 pub returns : goal.returns

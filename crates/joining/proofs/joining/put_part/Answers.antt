@@ -13,7 +13,7 @@ take_rows-taking-requires g c = record {
   below = c.requires.below;
   room = c.requires.room;
   names = rule_drop c.args.file.now c.args.rows.now c.args.used c.args.x.rows c.requires.rule;
-  own = c.requires.own_val;
+  own = c.requires.own;
 }
 
 pub returns-in-Some : goal.returns-in-Some

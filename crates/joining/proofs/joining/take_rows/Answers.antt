@@ -28,7 +28,7 @@ put_at-requires g c =
       within = v.low;
       based = v.based;
       names = v.names;
-      own = subst (Inside a.file.now) (sym (same-below c.loop-k.rows a.rows.now a.used i no_row (omega arith) c.loop-k.invariant.1)) (c.requires.own_val c.loop-k.k (omega arith));
+      own = subst (Inside a.file.now) (sym (same-below c.loop-k.rows a.rows.now a.used i no_row (omega arith) c.loop-k.invariant.1)) (c.requires.own c.loop-k.k (omega arith));
     }
 
 pub returns-in-Mismatch : goal.returns-in-Mismatch

@@ -22,7 +22,7 @@ returns-in-Added g c =
     let did = c.in-Added.ensures in
     record {
       put = put_one a.file.now m (paired a.rows.now a.actions.now) (paired to.rows to.actions) was.rows (was.rows + 1) None a.row a.plain.now None (lone a.row a.plain.now) _ refl (omega arith) refl did.taken (ap (λ k. seal (take k (paired to.rows to.actions)) None) d.ensures.rows);
-      ready = ready-added a.file.now a.rows.now was d.new.self a.row c.requires.room c.requires.own_val c.requires.ready d.ensures.rows d.ensures.sound to.rows d.ensures.opened did.rows;
+      ready = ready-added a.file.now a.rows.now was d.new.self a.row c.requires.room c.requires.own c.requires.ready d.ensures.rows d.ensures.sound to.rows d.ensures.opened did.rows;
       few = omega (arith, d.ensures.rows);
     }
 
