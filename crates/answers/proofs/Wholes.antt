@@ -8,13 +8,12 @@ use Rattle.tags.specs.Reads.{tag_at}
 use Rattle.machine.specs.Model.{Model, then_all, path_action}
 use Rattle.rows.specs.declared.row.RowKind.{RowKind}
 use Rattle.rows.specs.declared.row.RowKind.TheVariants.{Close, Open, Done}
-use Rattle.rows.specs.declared.row.PieceFault.{PieceFault}
 use Rattle.rows.specs.declared.row.PieceFault.TheVariants as piece
 use Rattle.rows.specs.Pieces.{name, Entry, base, close_last, closes, under, Content, put}
 use Rattle.rows.specs.Stretches.{row_of, lone, made, one, eval_from, eval, last_put}
 use Rattle.rows.proofs.Puts.{eval-fault}
 use Rattle.answers.specs.declared.fault.Fault.{Fault}
-use Rattle.answers.specs.declared.fault.Fault.TheVariants.{Stray, Mismatch}
+use Rattle.answers.specs.declared.fault.Fault.TheVariants.{Stray}
 use Rattle.answers.specs.declared.matches.Match.{Match}
 use Rattle.answers.specs.Own.{file_stretches, seen_at, Opened, path, Element, with_element, elements_from, matches_at, matches, judged}
 use Rattle.answers.specs.Finish.{first_close, row_matches, finish}

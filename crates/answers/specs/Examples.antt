@@ -7,7 +7,6 @@ use Rattle.rows.specs.declared.row.PieceFault.{PieceFault}
 use Rattle.rows.specs.declared.row.PieceFault.TheVariants as piece
 use Rattle.rows.specs.Pieces.{Entry, Content}
 use Rattle.rows.specs.Stretches.{content}
-use Rattle.answers.specs.declared.fault.Fault.TheVariants.{BadTag}
 use Rattle.answers.specs.Paths.{paths}
 
 abbrev row : RowKind → ℕ → ℕ → List (List ℕ) → Entry (List (List ℕ))

@@ -10,7 +10,7 @@ use Rattle.tags.specs.declared.reader.Step.TheVariants.{On, Done, Bad}
 use Rattle.tags.specs.Bytes.{letter, name_byte, white}
 use Rattle.tags.specs.Steps.{next, in_name}
 use Rattle.tags.specs.Reads.{Outcome, tag, fault, reads, read_tag}
-use Rattle.grammar.specs.Grammar.{Each, none, more, value_byte, Spaces, Name, name, Value, double, single, Attribute, attribute, Attributes, no_more, and_one, Closer, plain, slashed, Tag, opens, ends}
+use Rattle.grammar.specs.Grammar.{Each, none, more, value_byte, Spaces, name, Value, double, single, Attribute, attribute, Attributes, no_more, and_one, Closer, plain, slashed, Tag, opens, ends}
 
 abbrev pub goes : ℕ → List ℕ → ℕ → List ℕ → State × Step → Outcome
 goes at m b bs p =

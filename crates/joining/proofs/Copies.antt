@@ -9,7 +9,7 @@ use Rattle.rows.specs.declared.part.Kept.{Kept}
 use Rattle.rows.specs.declared.part.Part.{Part}
 use Rattle.rows.specs.Pieces.{Content, Inside, put}
 use Rattle.rows.specs.Stretches.{one, joined_at}
-use Rattle.rows.specs.Places.{paired, at, no_row}
+use Rattle.rows.specs.Places.{paired, no_row}
 use Rattle.rows.specs.Lists.{kept_at, held, RowRule}
 use Rattle.rows.proofs.Pairs.{take-paired}
 use Rattle.joining.proofs.Regions.{same-below, same-sizes}

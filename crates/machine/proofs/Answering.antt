@@ -1,6 +1,6 @@
 -- The answers to the questions that a text of queries is asked.
-use Rattle.std.proofs.Common.{◌≡◌, ℕ, ◌+◌, ◌<◌, ◌≤◌, true, false, ◌⊎◌, List, [], ◌∷◌, ◌++◌, map, length, take, sym, ap, ◌∙◌, subst, inl, inr, append-nil, arith, length-take}
-use Rattle.std.specs.List.{AllByRecursion as All}
+use Rattle.std.proofs.Common.{◌≡◌, ℕ, ◌<◌, ◌≤◌, true, false, ◌⊎◌, List, [], ◌∷◌, ◌++◌, map, length, take, sym, ap, ◌∙◌, subst, inl, inr, append-nil, arith, length-take}
+use Rattle.std.specs.List.{AllByRecursion}
 use Rattle.std.proofs.ByRecursion.{All-map}
 use Rattle.std.proofs.lemmas.Bool.{false≢true}
 use Rattle.machine.specs.declared.name.Name.{Name}
@@ -33,7 +33,7 @@ once text qs rs g h = ap (λ (D : Draft). D.lines) (sym (reading.complete text q
 short_name : (n : Name) → length (bytes_of n) ≤ longest_name
 short_name n = omega (arith, length-take n.len n.bytes, n.within)
 
-each_short : (ns : List Name) → All (λ n. length (bytes_of n) ≤ longest_name) ns
+each_short : (ns : List Name) → AllByRecursion (λ n. length (bytes_of n) ≤ longest_name) ns
 each_short [] = tt
 each_short (n ∷ ns) = (short_name n, each_short ns)
 
@@ -68,8 +68,8 @@ module _ (text : List ℕ) (w : closes (reads_as text).state ≡ true) (l : leng
         ∙ append-nil (positions ns qs)
         ∙ ap (λ ms. positions ms qs) (sym (ap (λ (S : Sketch). S.names) e))
 
-    listed : All (Listed (names_of p.names)) (reads_as text).lines
-    listed = subst (λ ns. All (Listed ns) (reads_as text).lines) (sym plan-names) (lists_all [] (reads_as text).lines)
+    listed : AllByRecursion (Listed (names_of p.names)) (reads_as text).lines
+    listed = subst (λ ns. AllByRecursion (Listed ns) (reads_as text).lines) (sym plan-names) (lists_all [] (reads_as text).lines)
 
     plan-queries : decoded (names_of p.names) (places_of p) ≡ (reads_as text).lines
     plan-queries = ap (decoded (names_of p.names)) plan-places ∙ decoded-is (names_of p.names) (reads_as text).lines listed

@@ -1,6 +1,6 @@
 -- A text that stands for queries is read as them.
 use Rattle.std.proofs.Common.{◌≡◌, ℕ, Bool, true, false, cond, List, [], ◌∷◌, ◌++◌, fold, sym, refl, ap, ◌∙◌, subst, append_assoc, append-nil, arith}
-use Rattle.std.specs.List.{AllByRecursion as All}
+use Rattle.std.specs.List.{AllByRecursion}
 use Rattle.std.proofs.lemmas.Bool.{cond-true}
 use Rattle.std.proofs.lemmas.Bool.Decides.{nat_tests}
 use Rattle.tags.specs.Bytes.{letter, name_byte}
@@ -35,7 +35,7 @@ deep_letter n q qs b h =
     ap (λ (t : State × Turn). lined t.0 (since_after b n) (steps_after t.1 n q) qs) (cond-true (letter b) (Inside true, On) _ h)
     ∙ ap (λ p. draft (Inside true) (cond p [] (n ++ b ∷ [])) q qs) (name-begins b h)
 
-name-on : (d : Bool) (n : List ℕ) (q : Query) (qs : List Query) (bs : List ℕ) → All (λ b. name_byte b ≡ true) bs → fold next (draft (Inside d) n q qs) bs ≡ draft (Inside d) (n ++ bs) q qs
+name-on : (d : Bool) (n : List ℕ) (q : Query) (qs : List Query) (bs : List ℕ) → AllByRecursion (λ b. name_byte b ≡ true) bs → fold next (draft (Inside d) n q qs) bs ≡ draft (Inside d) (n ++ bs) q qs
 name-on d n q qs [] a = ap (λ x. draft (Inside d) x q qs) (sym (append-nil n))
 name-on d n q qs (b ∷ bs) a =
     ap (λ D. fold next D bs) (inside d n q qs b a.0)
@@ -93,7 +93,7 @@ query_on (s ∷ q) qs g =
     let one = step-on s.deep s.test D [] qs g.steps.0 refl in
     subst (λ F. Ready F (s ∷ q) qs) (sym (split_step s q D)) (steps_on q E (s ∷ []) qs g.steps.1 one)
 
-lines_on : (rs qs : List Query) → All GoodQuery rs → fold next (draft Line [] [] qs) (closed_text rs) ≡ draft Line [] [] (qs ++ rs)
+lines_on : (rs qs : List Query) → AllByRecursion GoodQuery rs → fold next (draft Line [] [] qs) (closed_text rs) ≡ draft Line [] [] (qs ++ rs)
 lines_on [] qs g = ap (λ x. draft Line [] [] x) (sym (append-nil qs))
 lines_on (r ∷ rs) qs g =
     folded_append next (draft Line [] [] qs) (query_text r) (10 ∷ closed_text rs)

@@ -1,6 +1,6 @@
 -- Positions and the queries that have them.
-use Rattle.std.proofs.Common.{◌≡◌, ℕ, ◌+◌, ◌-◌, ◌<◌, true, false, eqb, ltb, List, [], ◌∷◌, ◌++◌, map, length, get_or, sym, refl, ap, ◌∙◌, arith}
-use Rattle.std.specs.List.{AllByRecursion as All}
+use Rattle.std.proofs.Common.{◌≡◌, ℕ, ◌-◌, ◌<◌, true, false, eqb, ltb, List, [], ◌∷◌, ◌++◌, map, length, get_or, sym, refl, ap, ◌∙◌, arith}
+use Rattle.std.specs.List.{AllByRecursion}
 use Rattle.std.proofs.lemmas.Bool.{and_parts, and_from, ltb-true, lt-ltb, eqb-true, eq-eqb, false≢true}
 use Rattle.machine.specs.declared.position.Position.{Position}
 use Rattle.machine.specs.declared.position.Position.TheVariants.{End, Any, Name}
@@ -47,11 +47,11 @@ encoded names (Name d k ∷ ps) c l =
     ∙ ap (λ j. Name d j ∷ positions names (decoded names ps)) (eqb-true _ k here.1)
     ∙ ap (λ x. Name d k ∷ x) (encoded names ps rest ab.1)
 
-before-listed : (names : List (List ℕ)) (s : QueryStep) (qs : List Query) → ListedTest names s.test → All (Listed names) qs → All (Listed names) (before s qs)
+before-listed : (names : List (List ℕ)) (s : QueryStep) (qs : List Query) → ListedTest names s.test → AllByRecursion (Listed names) qs → AllByRecursion (Listed names) (before s qs)
 before-listed names s [] t l = tt
 before-listed names s (q ∷ qs) t l = ((t, l.0), l.1)
 
-pub decoded-listed : (names : List (List ℕ)) (ps : List Position) → are_all_listed names ps ≡ true → All (Listed names) (decoded names ps)
+pub decoded-listed : (names : List (List ℕ)) (ps : List Position) → are_all_listed names ps ≡ true → AllByRecursion (Listed names) (decoded names ps)
 decoded-listed names [] l = tt
 decoded-listed names (End ∷ ps) l = (tt, decoded-listed names ps l)
 decoded-listed names (Any d ∷ ps) l = before-listed names _ (decoded names ps) tt (decoded-listed names ps l)
@@ -73,7 +73,7 @@ steps_decoded names (s ∷ q) ps l = at s.test l.0 ∙ ap (before s) (steps_deco
     at any k = refl
     at (named n) k = ap (λ m. before (step s.deep (named m)) (decoded names rest)) (name-at names n k)
 
-pub decoded-is : (names : List (List ℕ)) (qs : List Query) → All (Listed names) qs → decoded names (positions names qs) ≡ qs
+pub decoded-is : (names : List (List ℕ)) (qs : List Query) → AllByRecursion (Listed names) qs → decoded names (positions names qs) ≡ qs
 decoded-is names [] l = refl
 decoded-is names (q ∷ qs) l = steps_decoded names q (positions names qs) l.0 ∙ ap (λ x. q ∷ x) (decoded-is names qs l.1)
 
@@ -95,6 +95,6 @@ steps_known names (s ∷ q) ps l h = and_from _ _ (at s.test l.0) (steps_known n
     at any k = refl
     at (named n) k = and_from _ _ (lt-ltb 0 (column names n) k) (eq-eqb (column names (get_or names (column names n - 1) [])) (column names n) (ap (column names) (name-at names n k)))
 
-pub positions-known : (names : List (List ℕ)) (qs : List Query) → All (Listed names) qs → are_all_listed names (positions names qs) ≡ true
+pub positions-known : (names : List (List ℕ)) (qs : List Query) → AllByRecursion (Listed names) qs → are_all_listed names (positions names qs) ≡ true
 positions-known names [] l = refl
 positions-known names (q ∷ qs) l = steps_known names q (positions names qs) l.0 (positions-known names qs l.1)

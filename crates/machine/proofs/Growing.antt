@@ -1,6 +1,6 @@
 -- The names that queries use, as they grow.
-use Rattle.std.proofs.Common.{◌≡◌, ℕ, ◌+◌, ◌<◌, ◌≤◌, List, [], ◌∷◌, ◌++◌, map, length, sym, refl, ap, ◌∙◌, subst, inl, inr, append_assoc, append-nil, arith, length-append}
-use Rattle.std.specs.List.{AllByRecursion as All}
+use Rattle.std.proofs.Common.{◌≡◌, ℕ, ◌<◌, ◌≤◌, List, [], ◌∷◌, ◌++◌, map, length, sym, refl, ap, ◌∙◌, subst, inl, inr, append_assoc, append-nil, arith, length-append}
+use Rattle.std.specs.List.{AllByRecursion}
 use Rattle.std.proofs.lemmas.Bool.{cases_eq}
 use Rattle.machine.specs.declared.position.Position.TheVariants.{Name}
 use Rattle.machine.specs.Queries.{Test, any, named, QueryStep, Query, column, position_of, position, positions, ListedTest, Listed, noted, noted_test, noted_steps, noted_all}
@@ -49,7 +49,7 @@ query_listed : (xs ys : List (List ℕ)) (q : Query) → Grows xs ys → Listed 
 query_listed xs ys [] g l = tt
 query_listed xs ys (s ∷ q) g l = (test_listed xs ys s.test g l.0, query_listed xs ys q g l.1)
 
-pub all_listed : (xs ys : List (List ℕ)) (qs : List Query) → Grows xs ys → All (Listed xs) qs → All (Listed ys) qs
+pub all_listed : (xs ys : List (List ℕ)) (qs : List Query) → Grows xs ys → AllByRecursion (Listed xs) qs → AllByRecursion (Listed ys) qs
 all_listed xs ys [] g l = tt
 all_listed xs ys (q ∷ qs) g l = (query_listed xs ys q g l.0, all_listed xs ys qs g l.1)
 
@@ -64,7 +64,7 @@ lists_steps ns (s ∷ q) =
     let ms = noted_test ns s.test in
     (test_listed ms (noted_steps ms q) s.test (steps_grow ms q) (lists_test ns s.test), lists_steps ms q)
 
-pub lists_all : (ns : List (List ℕ)) (qs : List Query) → All (Listed (noted_all ns qs)) qs
+pub lists_all : (ns : List (List ℕ)) (qs : List Query) → AllByRecursion (Listed (noted_all ns qs)) qs
 lists_all ns [] = tt
 lists_all ns (q ∷ qs) =
     let ms = noted_steps ns q in
@@ -82,7 +82,7 @@ pub steps_same : (xs ys : List (List ℕ)) (q : Query) → Grows xs ys → Liste
 steps_same xs ys [] g l = refl
 steps_same xs ys (s ∷ q) g l = let a = position-same xs ys s g l.0 in let b = steps_same xs ys q g l.1 in cc
 
-pub positions-same : (xs ys : List (List ℕ)) (qs : List Query) → Grows xs ys → All (Listed xs) qs → positions ys qs ≡ positions xs qs
+pub positions-same : (xs ys : List (List ℕ)) (qs : List Query) → Grows xs ys → AllByRecursion (Listed xs) qs → positions ys qs ≡ positions xs qs
 positions-same xs ys [] g l = refl
 positions-same xs ys (q ∷ qs) g l = let a = steps_same xs ys q g l.0 in let b = positions-same xs ys qs g l.1 in cc
 
@@ -96,12 +96,12 @@ noted_all-push ns [] q = refl
 noted_all-push ns (r ∷ qs) q = noted_all-push (noted_steps ns r) qs q
 
 -- what begins with names that do not fit does not fit
-all_front : (P : List ℕ → Type 0) (xs ys : List (List ℕ)) → All P (xs ++ ys) → All P xs
+all_front : (P : List ℕ → Type 0) (xs ys : List (List ℕ)) → AllByRecursion P (xs ++ ys) → AllByRecursion P xs
 all_front P [] ys a = tt
 all_front P (x ∷ xs) ys a = (a.0, all_front P xs ys a.1)
 
 pub fit_before : (xs ys : List (List ℕ)) → Grows xs ys → NamesFit ys → NamesFit xs
 fit_before xs ys g f = record {
   few = omega (arith, f.few, ap length g.is, length-append xs g.rest);
-  short = all_front (λ n. length n ≤ longest_name) xs g.rest (subst (All (λ n. length n ≤ longest_name)) g.is f.short);
+  short = all_front (λ n. length n ≤ longest_name) xs g.rest (subst (AllByRecursion (λ n. length n ≤ longest_name)) g.is f.short);
 }

@@ -1,6 +1,6 @@
 -- What every value of `Queries` keeps.
 use Rattle.std.proofs.Common.{◌≡◌, ◌≤◌, length, sym, ap, ◌∙◌, arith}
-use Rattle.std.specs.List.{AllByRecursion as All}
+use Rattle.std.specs.List.{AllByRecursion}
 use Rattle.machine.specs.declared.queries.Queries.{Queries}
 use Rattle.machine.specs.Asked.{queries_of, listed_names}
 use Rattle.machine.specs.Limits.{most_names}
@@ -20,7 +20,7 @@ module _ (q : Queries) where
   lasts_are = q.ending
 
   -- the steps' names are listed
-  pub all_listed : All (Listed (listed_names q)) (queries_of q)
+  pub all_listed : AllByRecursion (Listed (listed_names q)) (queries_of q)
   unfolding queries_of
   all_listed = decoded-listed (listed_names q) (places_of q.plan) q.known
 

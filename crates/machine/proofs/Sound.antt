@@ -1,6 +1,6 @@
 -- What is read stands for what it is read as.
 use Rattle.std.proofs.Common.{◌≡◌, ℕ, ◌<◌, Bool, true, false, eqb, List, [], ◌∷◌, ◌++◌, length, fold, sym, refl, ap, ◌∙◌, subst, inl, inr, append_assoc, append-nil, arith}
-use Rattle.std.specs.List.{AllByRecursion as All}
+use Rattle.std.specs.List.{AllByRecursion}
 use Rattle.std.proofs.ByRecursion.{All-push}
 use Rattle.std.proofs.lemmas.List.{length_push, append_cancel_right}
 use Rattle.std.proofs.lemmas.Bool.{cases_Bool, cond-false, eqb-true, false≢true}
@@ -33,7 +33,7 @@ Held Star n q = 0 < length q
 Held Bad n q = ⊥
 
 record Written (s : State) (n : List ℕ) (q : Query) (qs : List Query) (bs : List ℕ) : Type 0 where
-  lines : All GoodQuery qs
+  lines : AllByRecursion GoodQuery qs
   steps : GoodSteps q
   held : Held s n q
   is : bs ≡ closed_text qs ++ (query_text q ++ pending s n)
@@ -69,7 +69,7 @@ line_grows bs qs q e =
 good_steps : (q : Query) (s : QueryStep) → GoodSteps q → GoodTest s.test → GoodSteps (q ++ s ∷ [])
 good_steps q s g t = All-push (λ r. GoodTest r.test) q s g t
 
-good_lines : (qs : List Query) (q : Query) → All GoodQuery qs → 0 < length q → GoodSteps q → All GoodQuery (qs ++ q ∷ [])
+good_lines : (qs : List Query) (q : Query) → AllByRecursion GoodQuery qs → 0 < length q → GoodSteps q → AllByRecursion GoodQuery (qs ++ q ∷ [])
 good_lines qs q g n s = All-push GoodQuery qs q g (record { some = n; steps = s })
 
 -- by what a byte came to
@@ -202,7 +202,7 @@ parted text (q ∷ qs) e = (omega arith, append_cancel_right text (lines_text (q
 pub record Whole (text : List ℕ) (q : Query) (qs : List Query) : Type 0 where
   pub none : q ≡ []
   pub some : 0 < length qs
-  pub good : All GoodQuery qs
+  pub good : AllByRecursion GoodQuery qs
   pub is : text ≡ lines_text qs
 
 pub sound : (text : List ℕ) → closes (reads_as text).state ≡ true → Whole text (reads_as text).steps (reads_as text).lines

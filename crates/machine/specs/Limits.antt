@@ -1,6 +1,6 @@
 -- How large a text of queries may be.
 use Rattle.std.specs.Prelude.{ℕ, ◌≤◌, List, length}
-use Rattle.std.specs.List.{AllByRecursion as All}
+use Rattle.std.specs.List.{AllByRecursion}
 
 abbrev pub most_bytes : ℕ
 most_bytes = 512
@@ -20,4 +20,4 @@ longest_name = 24
 -- few enough names, and each short enough
 pub record NamesFit (names : List (List ℕ)) : Type 0 where
   pub few : length names ≤ most_names
-  pub short : All (λ n. length n ≤ longest_name) names
+  pub short : AllByRecursion (λ n. length n ≤ longest_name) names

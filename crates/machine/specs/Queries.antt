@@ -1,6 +1,6 @@
 -- Queries over names, and their positions over columns.
 use Rattle.std.specs.Prelude.{ℕ, suc, ◌+◌, ◌<◌, Bool, true, false, cond, List, [], ◌∷◌, ◌++◌, map, length, replicate, ◌==◌}
-use Rattle.std.specs.List.{AllByRecursion as All}
+use Rattle.std.specs.List.{AllByRecursion}
 use Rattle.std.specs.Str.{bytes_eq}
 use Rattle.machine.specs.declared.position.Position.{Position}
 use Rattle.machine.specs.declared.position.Position.TheVariants.{End, Any, Name}
@@ -69,7 +69,7 @@ ListedTest names any = Unit {0}
 ListedTest names (named n) = 0 < column names n
 
 abbrev pub Listed : List (List ℕ) → Query → Type 0
-Listed names q = All (λ s. ListedTest names s.test) q
+Listed names q = AllByRecursion (λ s. ListedTest names s.test) q
 
 -- the list with a name at its end, unless the name stands there already
 abbrev pub noted : List (List ℕ) → List ℕ → List (List ℕ)

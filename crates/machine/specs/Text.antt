@@ -1,6 +1,6 @@
 -- The text of queries: what text stands for which queries.
 use Rattle.std.specs.Prelude.{◌≡◌, ℕ, ◌<◌, ◌≤◌, Bool, true, false, List, [], ◌∷◌, ◌++◌, length}
-use Rattle.std.specs.List.{AllByRecursion as All}
+use Rattle.std.specs.List.{AllByRecursion}
 use Rattle.tags.specs.Bytes.{letter, name_byte}
 use Rattle.machine.specs.Queries.{Test, any, named, Query}
 use Rattle.machine.specs.Limits.{most_lines}
@@ -8,14 +8,14 @@ use Rattle.machine.specs.Limits.{most_lines}
 -- a name, as in a tag
 abbrev pub GoodName : List ℕ → Type 0
 GoodName [] = ⊥
-GoodName (b ∷ bs) = (letter b ≡ true) × All (λ x. name_byte x ≡ true) bs
+GoodName (b ∷ bs) = (letter b ≡ true) × AllByRecursion (λ x. name_byte x ≡ true) bs
 
 abbrev pub GoodTest : Test → Type 0
 GoodTest any = Unit {0}
 GoodTest (named n) = GoodName n
 
 abbrev pub GoodSteps : Query → Type 0
-GoodSteps q = All (λ s. GoodTest s.test) q
+GoodSteps q = AllByRecursion (λ s. GoodTest s.test) q
 
 -- a query has one or more steps
 pub record GoodQuery (q : Query) : Type 0 where
@@ -46,5 +46,5 @@ lines_text (q ∷ r ∷ qs) = query_text q ++ 10 ∷ lines_text (r ∷ qs)
 pub record Parses (text : List ℕ) (qs : List Query) : Type 0 where
   pub some : 0 < length qs
   pub few : length qs ≤ most_lines
-  pub good : All GoodQuery qs
+  pub good : AllByRecursion GoodQuery qs
   pub is : text ≡ lines_text qs

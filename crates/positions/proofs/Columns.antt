@@ -1,6 +1,6 @@
 -- Columns in place of names.
 use Rattle.std.proofs.Common.{◌≡◌, ℕ, ◌+◌, ◌<◌, Bool, true, false, eqb, List, [], ◌∷◌, map, length, sym, refl, ap, ◌∙◌, arith}
-use Rattle.std.specs.List.{AllByRecursion as All}
+use Rattle.std.specs.List.{AllByRecursion}
 use Rattle.std.specs.Str.{bytes_eq}
 use Rattle.std.proofs.lemmas.Slice.Eq.{bytes_eq-Decides}
 use Rattle.std.proofs.lemmas.Bool.{both_ways}
@@ -55,7 +55,7 @@ columns_meet names (s ∷ q) (n ∷ path) l =
     let b = columns_meet names (s ∷ q) path l in
     cc (f, d, a, b)
 
-pub columns_lt : (names : List (List ℕ)) (path : List (List ℕ)) → All (λ c. c < length names + 1) (map (column names) path)
+pub columns_lt : (names : List (List ℕ)) (path : List (List ℕ)) → AllByRecursion (λ c. c < length names + 1) (map (column names) path)
 columns_lt names [] = tt
 columns_lt names (n ∷ path) = (column-le names n, columns_lt names path)
 

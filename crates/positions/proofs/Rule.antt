@@ -2,7 +2,7 @@
 use Rattle.std.proofs.Common.{◌≡◌, ℕ, zero, suc, ◌+◌, ◌-◌, ◌^◌, ◌<◌, ◌≤◌, Bool, true, false, ◌&&◌, eqb, List, [], ◌∷◌, ◌++◌, map, length, get_or, drop, replicate, sym, refl, ap, ◌∙◌, subst, ap₂, append_assoc, append-nil, zero-add, arith, length-append, pow_mono}
 use mathlib.Core.List.{map-append}
 use lib.ListN.{length-map, length-replicate}
-use Rattle.std.specs.List.{AllByRecursion as All}
+use Rattle.std.specs.List.{AllByRecursion}
 use Rattle.std.proofs.lemmas.Nat.{pow_pos}
 use Rattle.std.proofs.lemmas.List.{replicate-append-replicate, drop_more}
 use Rattle.std.proofs.lemmas.Bool.Decides.{nat_tests}
@@ -25,7 +25,7 @@ length-same (s ∷ ss) n came (b ∷ bs) e = ap suc (length-same ss n (b && s.fi
 
 -- the masks of steps, and the run of sets as masks
 pub run-masks : (ss : List (Step ℕ)) (fits : List ℕ) (stays n : ℕ) → Sealed ss → ((c : ℕ) → c < n → get_or fits c 0 ≡ fitting ss c) → stays ≡ staying ss
-    → (cs : List ℕ) (bs : List Bool) → All (λ c. c < n) cs → length bs ≡ length ss → run_by (moved_on fits stays) (mask bs) cs ≡ mask (run ss bs cs)
+    → (cs : List ℕ) (bs : List Bool) → AllByRecursion (λ c. c < n) cs → length bs ≡ length ss → run_by (moved_on fits stays) (mask bs) cs ≡ mask (run ss bs cs)
 unfolding moved_on
 run-masks ss fits stays n closed f d [] bs a e = refl
 run-masks ss fits stays n closed f d (c ∷ cs) bs a e =
@@ -119,15 +119,15 @@ first_alone k o (suc j) (q ∷ qs) l =
     ∙ first_alone (suc k) (o + n + 1) j qs (omega arith)
 
 module _ (names : List (List ℕ)) (qs : List Query) (fits : List ℕ) (n : ℕ) (within : length names < n)
-    (masks : (c : ℕ) → c < n → get_or fits c 0 ≡ fit_mask (positions names qs) c) (listed : All (Listed names) qs) where
+    (masks : (c : ℕ) → c < n → get_or fits c 0 ≡ fit_mask (positions names qs) c) (listed : AllByRecursion (Listed names) qs) where
   abbrev cols : List (List ℕ) → List ℕ
   cols path = map (column names) path
 
-  cols-lt : (path : List (List ℕ)) → All (λ c. c < n) (cols path)
+  cols-lt : (path : List (List ℕ)) → AllByRecursion (λ c. c < n) (cols path)
   cols-lt [] = tt
   cols-lt (m ∷ path) = (omega (arith, (columns_lt names (m ∷ path)).0), cols-lt path)
 
-  listed_at : (qs : List Query) (j : ℕ) → All (Listed names) qs → j < length qs → Listed names (get_or qs j [])
+  listed_at : (qs : List Query) (j : ℕ) → AllByRecursion (Listed names) qs → j < length qs → Listed names (get_or qs j [])
   listed_at [] j a l = absurd (omega arith)
   listed_at (q ∷ qs) zero a l = a.0
   listed_at (q ∷ qs) (suc j) a l = listed_at qs j a.1 (omega arith)

@@ -1,6 +1,6 @@
 -- The machine of relations tells by the path rule.
 use Rattle.std.proofs.Common.{◌≡◌, ◌^◌, List, map, get_or, ap, ◌∙◌, ap₂}
-use Rattle.std.specs.List.{AllByRecursion as All}
+use Rattle.std.specs.List.{AllByRecursion}
 use Rattle.machine.specs.Queries.{Query, positions, ends, Listed}
 use Rattle.machine.specs.Masks.{has, fit_mask}
 use Rattle.machine.specs.Views.{names_of}
@@ -13,7 +13,7 @@ use Rattle.positions.proofs.Telling.{by-rule}
 use Rattle.relation.specs.declared.relation.RelationMachine.{RelationMachine}
 use Rattle.relation.specs.Relations.{column_of, moves_of, verdict_of}
 
-pub related-rule : (m : RelationMachine) (qs : List Query) → All (Listed (names_of m.names)) qs → LinesOf qs m.lines
+pub related-rule : (m : RelationMachine) (qs : List Query) → AllByRecursion (Listed (names_of m.names)) qs → LinesOf qs m.lines
     → m.moves.fits ≡ fit_masks (positions (names_of m.names) qs) → m.moves.stays ≡ rest_mask 32 (positions (names_of m.names) qs) → ByRule qs (verdict_of m)
 related-rule m qs listed lines f s =
     let names = names_of m.names in

@@ -4,7 +4,7 @@ use positions::{Lines, Moves};
 /// The queries' names, how their positions move on a name, and where each query begins and ends.
 #[derive(Clone, Copy)]
 pub struct RelationMachine {
-    pub(crate) names: Names,
-    pub(crate) moves: Moves,
-    pub(crate) lines: Lines,
+    pub names: Names,
+    pub moves: Moves,
+    pub lines: Lines,
 }

@@ -1,7 +1,7 @@
 -- Reading an input gives back what it was written from.
 use Rattle.std.proofs.Common.{◌≡◌, ℕ, suc, ◌+◌, ◌-◌, ◌<◌, ◌≤◌, Bool, true, false, cond, ◌&&◌, eqb, ltb, leb, ◌⊎◌, List, [], ◌∷◌, ◌++◌, map, length, get_or, take, drop, Some, None, sym, refl, ap, ◌∙◌, subst, inl, inr, ⊎_elim, append_assoc, append-nil, zero-add, add-one, arith, length-append}
 use lib.Seq.{take-append_seam}
-use Rattle.std.specs.List.{AllByRecursion as All}
+use Rattle.std.specs.List.{AllByRecursion}
 use Rattle.std.proofs.lemmas.List.{take_all, drop_all}
 use Rattle.std.proofs.ByRecursion.{All-get_or}
 use Rattle.std.proofs.lemmas.Bool.{eq-eqb, ne_eqb, cases_eq, le-ltb, lt-ltb, and_from, and_parts, and_left, and_right, leb-true, le-leb, false≢true}
@@ -55,7 +55,7 @@ last_line [] h = refl
 last_line (b ∷ l) h = ap (λ t. cond t 0 (suc (ahead_of_blank t l))) (ne_eqb b 10 h.1.0) ∙ ap suc (within-last l h.1.1)
 
 -- past lines with their bytes 10
-past_ended : (ls : List (List ℕ)) (rest : List ℕ) → All QueryLine ls → blank_line (ended ls ++ rest) ≡ length (ended ls) + blank_line rest
+past_ended : (ls : List (List ℕ)) (rest : List ℕ) → AllByRecursion QueryLine ls → blank_line (ended ls ++ rest) ≡ length (ended ls) + blank_line rest
 past_ended [] rest h = sym (zero-add (blank_line rest))
 past_ended (l ∷ ls) rest h =
     let e = ap blank_line (append_assoc l (10 ∷ ended ls) rest) ∙ past_line l (ended ls ++ rest) h.0 in
@@ -64,7 +64,7 @@ past_ended (l ∷ ls) rest h =
     omega (arith, e, f, n)
 
 -- lines parted by byte 10 are all ahead
-past_parted : (l : List ℕ) (ls : List (List ℕ)) → QueryLine l → All QueryLine ls → blank_line (parted_on 10 l ls) ≡ length (parted_on 10 l ls)
+past_parted : (l : List ℕ) (ls : List (List ℕ)) → QueryLine l → AllByRecursion QueryLine ls → blank_line (parted_on 10 l ls) ≡ length (parted_on 10 l ls)
 past_parted l [] h hs = last_line l h
 past_parted l (k ∷ ls) h hs =
     let e = past_line l (parted_on 10 k ls) h in
@@ -98,7 +98,7 @@ parted-some : (l : List ℕ) (ls : List (List ℕ)) → QueryLine l → 0 < leng
 parted-some l [] h = h.0
 parted-some l (k ∷ ls) h = let n = length-append l (10 ∷ parted_on 10 k ls) in let z = h.0 in omega arith
 
-parted-last : (l : List ℕ) (ls : List (List ℕ)) → QueryLine l → All QueryLine ls → get_or (parted_on 10 l ls) (length (parted_on 10 l ls) - 1) 0 ≡ 10 → ⊥
+parted-last : (l : List ℕ) (ls : List (List ℕ)) → QueryLine l → AllByRecursion QueryLine ls → get_or (parted_on 10 l ls) (length (parted_on 10 l ls) - 1) 0 ≡ 10 → ⊥
 parted-last l [] h hs e = last_byte l h e
 parted-last l (k ∷ ls) h hs e =
     let low = parted-some k ls hs.0 in
@@ -125,7 +125,7 @@ text_none bytes n =
     ap (λ b. take (cond b (blank_line bytes - 1) (blank_line bytes)) bytes) t ∙ ap (λ k. take k bytes) n
 
 -- the lines before an empty line, or before nothing
-text_ended : (ls : List (List ℕ)) (rest : List ℕ) → All QueryLine ls → blank_line rest ≡ 0 → lines_ahead (ended ls ++ rest) ≡ parted 10 ls
+text_ended : (ls : List (List ℕ)) (rest : List ℕ) → AllByRecursion QueryLine ls → blank_line rest ≡ 0 → lines_ahead (ended ls ++ rest) ≡ parted 10 ls
 text_ended [] rest h none = text_none rest none
 text_ended (l ∷ ls) rest h none =
     let e : ended (l ∷ ls) ++ rest ≡ parted_on 10 l ls ++ (10 ∷ rest) = ap (λ x. x ++ rest) (ended-parted l ls) ∙ append_assoc (parted_on 10 l ls) (10 ∷ []) rest in
@@ -133,11 +133,11 @@ text_ended (l ∷ ls) rest h none =
     let k = ap length (ended-parted l ls) ∙ length-append (parted_on 10 l ls) (10 ∷ []) in
     text_at (ended (l ∷ ls) ++ rest) (parted_on 10 l ls) rest e (omega (arith, n, k))
 
-text_parted : (ls : List (List ℕ)) → All QueryLine ls → lines_ahead (parted 10 ls) ≡ parted 10 ls
+text_parted : (ls : List (List ℕ)) → AllByRecursion QueryLine ls → lines_ahead (parted 10 ls) ≡ parted 10 ls
 text_parted [] h = refl
 text_parted (l ∷ ls) h = text_whole (parted_on 10 l ls) (past_parted l ls h.0 h.1) (parted-last l ls h.0 h.1)
 
-module _ (queries : List (List ℕ)) (h : All QueryLine queries) where
+module _ (queries : List (List ℕ)) (h : AllByRecursion QueryLine queries) where
   text_of : (file bytes : List ℕ) → Body queries file bytes → lines_ahead bytes ≡ parted 10 queries
   text_of file bytes (filed {file = f}) = text_ended queries (10 ∷ f) h refl
   text_of file bytes unfiled = ap lines_ahead (sym (append-nil (ended queries))) ∙ text_ended queries [] h refl
@@ -146,7 +146,7 @@ module _ (queries : List (List ℕ)) (h : All QueryLine queries) where
   none_left : (bytes : List ℕ) → blank_line bytes ≡ length bytes → after_blank bytes ≡ []
   none_left bytes n = drop_all (blank_line bytes + 1) bytes (omega arith)
 
-  parted-ahead : (ls : List (List ℕ)) → All QueryLine ls → blank_line (parted 10 ls) ≡ length (parted 10 ls)
+  parted-ahead : (ls : List (List ℕ)) → AllByRecursion QueryLine ls → blank_line (parted 10 ls) ≡ length (parted 10 ls)
   parted-ahead [] hs = refl
   parted-ahead (l ∷ ls) hs = past_parted l ls hs.0 hs.1
 
@@ -160,7 +160,7 @@ module _ (queries : List (List ℕ)) (h : All QueryLine queries) where
       none_left (ended queries) (omega (arith, e, f))
   file-of file bytes unended = none_left (parted 10 queries) (parted-ahead queries h)
 
-told-input : (first : List ℕ) (queries : List (List ℕ)) (file input : List ℕ) → Line first → All QueryLine queries → Written first queries file input → request input ≡ judged (cuts_of first) (parted 10 queries) file
+told-input : (first : List ℕ) (queries : List (List ℕ)) (file input : List ℕ) → Line first → AllByRecursion QueryLine queries → Written first queries file input → request input ≡ judged (cuts_of first) (parted 10 queries) file
 told-input first queries file input l h alone =
     let n = all_ahead first l in
     let line : first_line first ≡ first = take_all (ahead 10 first) first (omega (arith, n)) in
@@ -182,7 +182,7 @@ told-input first queries file input l h (whole {bytes = bytes} body) =
 record BodyWay (bytes : List ℕ) : Type 0 where
   queries : List (List ℕ)
   file : List ℕ
-  lines : All QueryLine queries
+  lines : AllByRecursion QueryLine queries
   body : Body queries file bytes
 
 -- a line is cut off at the end, or a byte 10 and a body follow it
@@ -262,7 +262,7 @@ parted-words (b ∷ bs) =
     (cases_eq b 32)
 
 -- a word of digits, after which the words ws come
-with_word : (w : List ℕ) (ws : List (List ℕ)) → All (λ b. (48 ≤ b) × (b ≤ 57)) w → words (parted_on 32 [] ws) ≡ [] ∷ ws → words (parted_on 32 w ws) ≡ w ∷ ws
+with_word : (w : List ℕ) (ws : List (List ℕ)) → AllByRecursion (λ b. (48 ≤ b) × (b ≤ 57)) w → words (parted_on 32 [] ws) ≡ [] ∷ ws → words (parted_on 32 w ws) ≡ w ∷ ws
 with_word [] ws h e = e
 with_word (b ∷ w) ws h e =
     let n : b ≡ 32 → ⊥ = λ z. let low = h.0.0 in omega arith in
@@ -270,20 +270,20 @@ with_word (b ∷ w) ws h e =
     ∙ ap (λ t. cond t ([] ∷ words (parted_on 32 w ws)) (on_first b (words (parted_on 32 w ws)))) (ne_eqb b 32 n)
     ∙ ap (on_first b) (with_word w ws h.1 e)
 
-no_word : (ws : List (List ℕ)) → All PlaceWord ws → words (parted_on 32 [] ws) ≡ [] ∷ ws
+no_word : (ws : List (List ℕ)) → AllByRecursion PlaceWord ws → words (parted_on 32 [] ws) ≡ [] ∷ ws
 no_word [] h = refl
 no_word (w ∷ ws) h = ap (λ l. [] ∷ l) (with_word w ws h.0.digits (no_word ws h.1))
 
 -- places
 
-all_digits : (w : List ℕ) → digits w ≡ true → All (λ b. (48 ≤ b) × (b ≤ 57)) w
+all_digits : (w : List ℕ) → digits w ≡ true → AllByRecursion (λ b. (48 ≤ b) × (b ≤ 57)) w
 all_digits [] h = tt
 all_digits (b ∷ w) h =
     let p = and_parts (digit b) (digits w) h in
     let q = and_parts (leb 48 b) (leb b 57) p.0 in
     ((leb-true 48 b q.0, leb-true b 57 q.1), all_digits w p.1)
 
-digits-all : (w : List ℕ) → All (λ b. (48 ≤ b) × (b ≤ 57)) w → digits w ≡ true
+digits-all : (w : List ℕ) → AllByRecursion (λ b. (48 ≤ b) × (b ≤ 57)) w → digits w ≡ true
 digits-all [] h = refl
 digits-all (b ∷ w) h = and_from (digit b) (digits w) (and_from (leb 48 b) (leb b 57) (le-leb 48 b h.0.0) (le-leb b 57 h.0.1)) (digits-all w h.1)
 
@@ -304,11 +304,11 @@ place-word w h =
 word_place : (w : List ℕ) → PlaceWord w → is_place w ≡ true
 word_place w h = and_from (some w) (digits w && leb (value w) limit) (some-from w h.some) (and_from (digits w) (leb (value w) limit) (digits-all w h.digits) (le-leb (value w) limit h.within))
 
-place-words : (ws : List (List ℕ)) → are_places ws ≡ true → All PlaceWord ws
+place-words : (ws : List (List ℕ)) → are_places ws ≡ true → AllByRecursion PlaceWord ws
 place-words [] h = tt
 place-words (w ∷ ws) h = let p = and_parts (is_place w) (are_places ws) h in (place-word w p.0, place-words ws p.1)
 
-words-places : (ws : List (List ℕ)) → All PlaceWord ws → are_places ws ≡ true
+words-places : (ws : List (List ℕ)) → AllByRecursion PlaceWord ws → are_places ws ≡ true
 words-places [] h = refl
 words-places (w ∷ ws) h = and_from (is_place w) (are_places ws) (word_place w h.0) (words-places ws h.1)
 
@@ -353,7 +353,7 @@ some-parted : (w : List ℕ) (ws : List (List ℕ)) → PlaceWord w → some (pa
 some-parted w [] h = some-from w h.some
 some-parted w (k ∷ ws) h = let low = h.some in let n = length-append w (32 ∷ parted_on 32 k ws) in some-from (w ++ (32 ∷ parted_on 32 k ws)) (omega arith)
 
-line_of_words : (ws : List (List ℕ)) → All PlaceWord ws → Rising (map value ws) → cuts_of (parted 32 ws) ≡ Some (map value ws)
+line_of_words : (ws : List (List ℕ)) → AllByRecursion PlaceWord ws → Rising (map value ws) → cuts_of (parted 32 ws) ≡ Some (map value ws)
 line_of_words [] h r = refl
 line_of_words (w ∷ ws) h r =
     let line = parted_on 32 w ws in

@@ -1,12 +1,12 @@
 -- How inputs are written, in the words of their rule; and that reading one gives back what was written.
 use Rattle.std.specs.Prelude.{◌≡◌, ℕ, ◌<◌, ◌≤◌, List, [], ◌∷◌, ◌++◌, map, length, Some, ◌≢◌}
-use Rattle.std.specs.List.{AllByRecursion as All}
+use Rattle.std.specs.List.{AllByRecursion}
 use Rattle.request.specs.Places.{value, limit, cuts_of}
 use Rattle.request.specs.Asked.{judged, request}
 
 -- a line has no byte 10
 abbrev pub Line : List ℕ → Type 0
-Line l = All (λ b. b ≢ 10) l
+Line l = AllByRecursion (λ b. b ≢ 10) l
 
 -- a query line is not empty
 abbrev pub QueryLine : List ℕ → Type 0
@@ -40,7 +40,7 @@ pub data Written (first : List ℕ) : List (List ℕ) → List ℕ → List ℕ 
 -- one or more digits, which write a number that is not above the limit
 pub record PlaceWord (word : List ℕ) : Type 0 where
   pub some : 0 < length word
-  pub digits : All (λ b. (48 ≤ b) × (b ≤ 57)) word
+  pub digits : AllByRecursion (λ b. (48 ≤ b) × (b ≤ 57)) word
   pub within : value word ≤ limit
 
 -- each is greater than the one before it
@@ -55,7 +55,7 @@ Rising (n ∷ ns) = RisingAfter n ns
 -- a line of rising places, parted by single spaces; with no place it is empty
 pub record CutLine (line cuts : List ℕ) : Type 0 where
   pub words : List (List ℕ)
-  pub places : All PlaceWord words
+  pub places : AllByRecursion PlaceWord words
   pub is : line ≡ parted 32 words
   pub cut : cuts ≡ map value words
   pub rise : Rising cuts
@@ -66,13 +66,13 @@ pub record Way (input : List ℕ) : Type 0 where
   pub queries : List (List ℕ)
   pub file : List ℕ
   pub line : Line first
-  pub lines : All QueryLine queries
+  pub lines : AllByRecursion QueryLine queries
   pub written : Written first queries file input
 
 -- Every input is written in some way, and is read as what it was written from.
 pub record ReadsBack : Type 0 where
   pub every : (input : List ℕ) → Way input
-  pub told : (first : List ℕ) (queries : List (List ℕ)) (file input : List ℕ) → Line first → All QueryLine queries →
+  pub told : (first : List ℕ) (queries : List (List ℕ)) (file input : List ℕ) → Line first → AllByRecursion QueryLine queries →
       Written first queries file input → request input ≡ judged (cuts_of first) (parted 10 queries) file
   -- a first line has cuts exactly if it is a line of them
   pub cuts : (line cuts : List ℕ) → (cuts_of line ≡ Some cuts → CutLine line cuts) × (CutLine line cuts → cuts_of line ≡ Some cuts)

@@ -9,7 +9,7 @@ use crate::row::{Row, RowKind};
 use machine::Machine;
 
 /// What came of a row that was put after others.
-#[derive(Clone, Copy)]
+#[derive(Clone, Copy, Debug, PartialEq, Eq)]
 pub enum Step {
     Added,
     /// It closed the base.

@@ -1,6 +1,6 @@
 -- Which sets the closure has.
 use Rattle.std.proofs.Common.{◌≡◌, ℕ, zero, suc, ◌+◌, ◌<◌, ◌≤◌, cond, eqb, ltb, List, [], ◌∷◌, ◌++◌, length, get_or, sym, refl, ap, ◌∙◌, subst, inl, inr, append_assoc, append-nil, arith}
-use Rattle.std.specs.List.{AllByRecursion as All}
+use Rattle.std.specs.List.{AllByRecursion}
 use Rattle.std.proofs.lemmas.Bool.{cases_eq, eq-eqb, cases_lt, lt-ltb, le-ltb, cond-true, cond-false}
 use Rattle.std.proofs.ByRecursion.{All-push, All-get_or}
 use Rattle.std.proofs.lemmas.List.{get_or_append_left, get_or_push, length_push, length-append}
@@ -13,24 +13,24 @@ use Rattle.table.specs.Arising.{Arises, ClosureFinds}
 
 -- what the start has and each column keeps, each set has
 module _ (P : ℕ → Type 0) (f : ℕ → ℕ → ℕ) (cols : ℕ) (on : (s c : ℕ) → c < cols → P s → P (f s c)) where
-  added-every : (xs : List ℕ) (x : ℕ) → All P xs → P x → All P (added xs x)
+  added-every : (xs : List ℕ) (x : ℕ) → AllByRecursion P xs → P x → AllByRecursion P (added xs x)
   added-every xs x a p = elim (cases_lt (place x xs) (length xs)) [
-    | inl h ↦ subst (All P) (sym (added-old xs x h)) a
-    | inr h ↦ subst (All P) (sym (added_new xs x h)) (All-push P xs x a p)
+    | inl h ↦ subst (AllByRecursion P) (sym (added-old xs x h)) a
+    | inr h ↦ subst (AllByRecursion P) (sym (added_new xs x h)) (All-push P xs x a p)
   ]
 
-  tried-every : (s c n : ℕ) (xs : List ℕ) → c + n ≤ cols → P s → All P xs → All P (tried f s c n xs)
+  tried-every : (s c n : ℕ) (xs : List ℕ) → c + n ≤ cols → P s → AllByRecursion P xs → AllByRecursion P (tried f s c n xs)
   tried-every s c zero xs l p a = a
   tried-every s c (suc n) xs l p a = tried-every s (c + 1) n (added xs (f s c)) (omega arith) p (added-every xs (f s c) a (on s c (omega arith) p))
 
-  closure-every : (n i : ℕ) (xs : List ℕ) → All P xs → All P (closure f cols n i xs)
+  closure-every : (n i : ℕ) (xs : List ℕ) → AllByRecursion P xs → AllByRecursion P (closure f cols n i xs)
   unfolding closure
   closure-every zero i xs a = a
   closure-every (suc n) i xs a =
       let t = tried f (get_or xs i 0) 0 cols xs in
       elim (cases_lt i (length xs)) [
-        | inl h ↦ subst (All P) (sym (cond-true (ltb i (length xs)) (closure f cols n (i + 1) t) xs (lt-ltb i (length xs) h))) (closure-every n (i + 1) t (tried-every (get_or xs i 0) 0 cols xs (omega arith) (All-get_or P xs i 0 h a) a))
-        | inr h ↦ subst (All P) (sym (cond-false (ltb i (length xs)) (closure f cols n (i + 1) t) xs (le-ltb i (length xs) h))) a
+        | inl h ↦ subst (AllByRecursion P) (sym (cond-true (ltb i (length xs)) (closure f cols n (i + 1) t) xs (lt-ltb i (length xs) h))) (closure-every n (i + 1) t (tried-every (get_or xs i 0) 0 cols xs (omega arith) (All-get_or P xs i 0 h a) a))
+        | inr h ↦ subst (AllByRecursion P) (sym (cond-false (ltb i (length xs)) (closure f cols n (i + 1) t) xs (le-ltb i (length xs) h))) a
       ]
 
 run-push : (f : ℕ → ℕ → ℕ) (s c : ℕ) (cs : List ℕ) → run_by f s (cs ++ c ∷ []) ≡ f (run_by f s cs) c
@@ -134,7 +134,7 @@ closed_closure f cols (suc n) i xs l h s =
     ] in
     both s
 
-reach : (f : ℕ → ℕ → ℕ) (cols : ℕ) (xs : List ℕ) → Closed f cols (length xs) xs → (cs : List ℕ) (k : ℕ) → k < length xs → All (λ c. c < cols) cs
+reach : (f : ℕ → ℕ → ℕ) (cols : ℕ) (xs : List ℕ) → Closed f cols (length xs) xs → (cs : List ℕ) (k : ℕ) → k < length xs → AllByRecursion (λ c. c < cols) cs
     → (j : ℕ) × (j < length xs) × (get_or xs j 0 ≡ run_by f (get_or xs k 0) cs)
 reach f cols xs h [] k l a = (k, l, refl)
 reach f cols xs h (c ∷ cs) k l a =

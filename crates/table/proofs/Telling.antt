@@ -1,6 +1,6 @@
 -- The table machine tells by the path rule.
 use Rattle.std.proofs.Common.{◌≡◌, ◌+◌, ◌<◌, List, [], ◌∷◌, map, length, get_or, ap, ◌∙◌, arith}
-use Rattle.std.specs.List.{AllByRecursion as All}
+use Rattle.std.specs.List.{AllByRecursion}
 use Rattle.machine.specs.Queries.{Query, positions, begins, ends, Listed}
 use Rattle.machine.specs.Masks.{mask, has, fit_mask}
 use Rattle.machine.specs.Views.{names_of}
@@ -17,7 +17,7 @@ use Rattle.table.proofs.Arise.{closure-keeps}
 use Rattle.table.proofs.Closing.{closure-grows}
 use Rattle.table.proofs.Walks.{walks}
 
-pub table_rule : (m : TableMachine) (qs : List Query) → All (Listed (names_of m.names)) qs → LinesOf qs m.lines
+pub table_rule : (m : TableMachine) (qs : List Query) → AllByRecursion (Listed (names_of m.names)) qs → LinesOf qs m.lines
     → Made (leads (positions (names_of m.names) qs)) (length (names_of m.names) + 1) (mask (begins qs)) m.states → ByRule qs (verdict_of m)
 table_rule m qs listed lines made =
     let names = names_of m.names in

@@ -1,13 +1,13 @@
 -- The table's run and the run of sets.
 use Rattle.std.proofs.Common.{◌≡◌, ℕ, ◌+◌, ◌*◌, ◌<◌, ◌≤◌, List, [], ◌∷◌, length, get_or, refl, ap, ◌∙◌, arith}
-use Rattle.std.specs.List.{AllByRecursion as All}
+use Rattle.std.specs.List.{AllByRecursion}
 use Rattle.positions.specs.Sets.{run_by}
 use Rattle.table.specs.Closure.{place}
 use Rattle.table.specs.Filling.{Filled}
 use Rattle.table.specs.Tables.{walk}
 use Rattle.table.proofs.Places.{place_at}
 
-pub walks : (f : ℕ → ℕ → ℕ) (cols : ℕ) (sets table : List ℕ) → Filled f cols (length sets * 16) sets table → cols ≤ 16 → (s : ℕ) (cs : List ℕ) → s < length sets → All (λ c. c < cols) cs
+pub walks : (f : ℕ → ℕ → ℕ) (cols : ℕ) (sets table : List ℕ) → Filled f cols (length sets * 16) sets table → cols ≤ 16 → (s : ℕ) (cs : List ℕ) → s < length sets → AllByRecursion (λ c. c < cols) cs
     → get_or sets (walk table s cs) 0 ≡ run_by f (get_or sets s 0) cs
 walks f cols sets table h w s [] l a = refl
 walks f cols sets table h w s (c ∷ cs) l a =

@@ -1,13 +1,13 @@
 -- The sets that arise from a start by moving on columns, whatever moves them, and what it is to find them all.
 use Rattle.std.specs.Prelude.{◌≡◌, ℕ, ◌<◌, ◌≤◌, List, [], ◌∷◌, length, slice_index}
-use Rattle.std.specs.List.{AllByRecursion as All}
+use Rattle.std.specs.List.{AllByRecursion}
 use Rattle.positions.specs.Sets.{run_by}
 use Rattle.table.specs.Closure.{closure}
 
 -- some path of columns leads from the start to the set
 pub record Arises (next : ℕ → ℕ → ℕ) (columns start set : ℕ) : Type 0 where
   pub path : List ℕ
-  pub used : All (λ c. c < columns) path
+  pub used : AllByRecursion (λ c. c < columns) path
   pub there : run_by next start path ≡ set
 
 -- different sets that arise, more than `limit` of them

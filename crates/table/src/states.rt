@@ -6,9 +6,9 @@ use crate::found::Found;
 /// 32 entries for each, so that a column's action stands in one place.
 #[derive(Clone, Copy)]
 pub struct States {
-    pub(crate) found: Found,
-    pub(crate) next: [u8; 512],
-    pub(crate) columns: [u8; 512],
+    pub found: Found,
+    pub next: [u8; 512],
+    pub columns: [u8; 512],
     ghost size: { length next ≡ 512 },
     ghost ok: { (k : ℕ) → k < 512 → slice_index next k < 32 },
     ghost whole: { length columns ≡ 512 },

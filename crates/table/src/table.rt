@@ -5,7 +5,7 @@ use positions::Lines;
 /// The queries' names, the states with their table, and where each query ends.
 #[derive(Clone, Copy)]
 pub struct TableMachine {
-    pub(crate) names: Names,
-    pub(crate) states: States,
-    pub(crate) lines: Lines,
+    pub names: Names,
+    pub states: States,
+    pub lines: Lines,
 }

@@ -1,5 +1,5 @@
 -- Blocks of bytes, and the marks in them.
-use Rattle.std.proofs.Common.{◌≡◌, ℕ, zero, suc, ◌+◌, ◌-◌, ◌%◌, ◌^◌, ◌<◌, ◌≤◌, min, Bool, true, false, cond, not, eqb, List, [], ◌∷◌, ◌++◌, map, length, get_or, replicate, sym, refl, ap, ◌∙◌, ⊎_elim, append-nil, add-zero, arith, length-append, w8}
+use Rattle.std.proofs.Common.{◌≡◌, ℕ, suc, ◌+◌, ◌%◌, ◌^◌, ◌<◌, ◌≤◌, min, true, false, cond, not, eqb, List, [], ◌∷◌, ◌++◌, map, length, get_or, replicate, sym, refl, ap, ◌∙◌, ⊎_elim, append-nil, add-zero, arith, length-append, w8}
 use lib.Count.{count_trailing_zeros}
 use lib.Lanes.{mask_l, zip2, top}
 use Rattle.std.specs.List.{between}

@@ -4,7 +4,6 @@ use Rattle.tags.specs.declared.reader.State.{State}
 use Rattle.tags.specs.declared.reader.State.TheVariants.{Before, Opened, Name, Gap, Attribute, AttributeGap, Equals, InDouble, InSingle, AfterValue, Slashed, EndOpened, EndName, EndGap}
 use Rattle.tags.specs.declared.reader.Step.{Step}
 use Rattle.tags.specs.declared.reader.Step.TheVariants.{On, Done, Bad}
-use Rattle.tags.specs.declared.tag.TagKind.{TagKind}
 use Rattle.tags.specs.declared.tag.TagKind.TheVariants.{Start, Empty, End}
 use Rattle.tags.specs.declared.tag.Cause.{Cause}
 use Rattle.tags.specs.declared.tag.Cause.TheVariants.{NoName, NoEquals, NoQuote, Misplaced}

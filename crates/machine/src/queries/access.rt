@@ -1,6 +1,6 @@
 //! What the queries' machines look up.
 ghost use Rattle.std.specs.Prelude.{◌≡◌, ◌≤◌, length};
-ghost use Rattle.std.specs.List.{AllByRecursion as All};
+ghost use Rattle.std.specs.List.{AllByRecursion};
 ghost use Rattle.machine.specs.Asked.{queries_of, listed_names};
 ghost use Rattle.machine.specs.Limits.{most_lines, most_positions, most_names};
 ghost use Rattle.machine.specs.Queries.{column, positions, ends, Listed};
@@ -40,7 +40,7 @@ impl Queries {
     /// The names, in the order of first use; the steps use no other.
     pub fn names(&self) -> Names
         ensures list { names_of result ≡ listed_names self.now }
-        ensures all { All (Listed (listed_names self.now)) (queries_of self.now) }
+        ensures all { AllByRecursion (Listed (listed_names self.now)) (queries_of self.now) }
     {
         let names = self.plan.names;
         names

@@ -1,4 +1,4 @@
-use Rattle.std.proofs.Common.{◌≡◌, take, Some, None, sym, refl, ap, ◌∙◌, subst, arith}
+use Rattle.std.proofs.Common.{take, Some, None, sym, refl, ap, ◌∙◌, subst, arith}
 use Rattle.tags.specs.Reads.{kind_of, name_of}
 use Rattle.rows.specs.Pieces.{seal}
 use Rattle.rows.specs.Stretches.{action_of, lone}

@@ -1,12 +1,9 @@
-use Rattle.std.proofs.Common.{take, Err, refl, ap, ◌∙◌, arith}
-use Rattle.std.proofs.lemmas.Result.{err_from_is_err_and}
+use Rattle.std.proofs.Common.{refl, ap, ◌∙◌}
 use Rattle.tags.specs.Reads.{kind_of, name_of}
-use Rattle.rows.specs.Pieces.{put, seal}
-use Rattle.rows.specs.Stretches.{row_of, action_of, one, made}
-use Rattle.rows.specs.Places.{stored, paired}
-use Rattle.rows.specs.declared.row.PieceFault.TheVariants.{BadTag}
-use Rattle.reading.specs.Reading.{so_far, fault_in}
-use Rattle.rows.proofs.Puts.{put-bad}
+use Rattle.rows.specs.Pieces.{put}
+use Rattle.rows.specs.Stretches.{row_of, action_of}
+use Rattle.rows.specs.Places.{stored}
+use Rattle.reading.specs.Reading.{so_far}
 use Rattle.rows.proofs.Tags.{tag-inside, tag-made}
 use Rattle.reading.proofs.reading.read_stretch.Goals as goal
 

@@ -1,4 +1,4 @@
-use Rattle.std.proofs.Common.{◌≡◌, ℕ, ◌+◌, ◌-◌, ◌<◌, true, ◌⊎◌, List, length, take, drop, Some, Err, vec_items, sym, refl, ap, ◌∙◌, subst, inl, inr, ⊎_elim, arith, length-drop}
+use Rattle.std.proofs.Common.{◌≡◌, ℕ, ◌+◌, ◌-◌, ◌<◌, true, ◌⊎◌, List, length, take, drop, Some, Err, vec_items, sym, refl, ap, ◌∙◌, subst, inr, ⊎_elim, arith, length-drop}
 use Rattle.std.proofs.lemmas.List.{take_all}
 use Rattle.request.specs.Lines.{ahead}
 use Rattle.std.proofs.lemmas.Result.{err_from_is_err_and}

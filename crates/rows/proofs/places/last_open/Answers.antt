@@ -1,6 +1,5 @@
 use Rattle.std.proofs.Common.{◌-◌, ◌≤◌, ⊎_elim, arith}
 use Rattle.std.proofs.lemmas.Bool.{cases_eq}
-use Rattle.rows.specs.Places.{at}
 use Rattle.rows.proofs.places.last_open.Goals as goal
 
 pub returns-in-Open : goal.returns-in-Open

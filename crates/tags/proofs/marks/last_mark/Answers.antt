@@ -1,4 +1,4 @@
-use Rattle.std.proofs.Common.{◌≡◌, ◌+◌, ◌-◌, ◌≤◌, [], sym, ap, ◌∙◌, arith}
+use Rattle.std.proofs.Common.{◌≡◌, ◌+◌, ◌-◌, sym, ap, ◌∙◌, arith}
 use Rattle.tags.specs.Marks.{marks_of, last_or}
 use Rattle.tags.proofs.Blocks.{none_from, last-here, none_left}
 use Rattle.tags.proofs.marks.last_mark.Goals as goal

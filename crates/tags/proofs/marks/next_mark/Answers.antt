@@ -1,4 +1,4 @@
-use Rattle.std.proofs.Common.{◌≡◌, ◌+◌, ◌<◌, ◌≤◌, ap, ◌∙◌, arith}
+use Rattle.std.proofs.Common.{◌+◌, ap, ◌∙◌, arith}
 use Rattle.tags.specs.Marks.{first_or}
 use Rattle.tags.proofs.Blocks.{past-block, in_block}
 use Rattle.tags.proofs.marks.next_mark.Goals as goal

@@ -1,5 +1,4 @@
-use Rattle.std.proofs.Common.{◌≡◌, ℕ, ◌+◌, ◌<◌, ◌≤◌, length, refl, arith}
-use Rattle.tags.specs.Marks.{mark_count}
+use Rattle.std.proofs.Common.{◌≡◌, ◌+◌, refl, arith}
 use Rattle.tags.proofs.Blocks.{none-counted, with-marks, without-marks, none_yet, scanned-none, scanned-some}
 use Rattle.tags.proofs.marks.scan.Goals as goal
 

@@ -1,5 +1,5 @@
 use Rattle.std.proofs.Common.{sym, ap, ◌∙◌, subst}
-use Rattle.std.specs.List.{AllByRecursion as All}
+use Rattle.std.specs.List.{AllByRecursion}
 use Rattle.machine.specs.Asked.{queries_of}
 use Rattle.machine.specs.Queries.{Listed, positions}
 use Rattle.positions.specs.Sets.{fit_masks, rest_mask}
@@ -19,5 +19,5 @@ returns c =
       fits = fits;
       stays = stays;
       lines = lines;
-      rule = related-rule (record { names = c.names.result; moves = c.of-moves.result; lines = c.of-lines.result }) qs (subst (λ ns. All (Listed ns) qs) e c.names.ensures.all) lines (fits ∙ ap (λ ns. fit_masks (positions ns qs)) e) (stays ∙ ap (λ ns. rest_mask 32 (positions ns qs)) e);
+      rule = related-rule (record { names = c.names.result; moves = c.of-moves.result; lines = c.of-lines.result }) qs (subst (λ ns. AllByRecursion (Listed ns) qs) e c.names.ensures.all) lines (fits ∙ ap (λ ns. fit_masks (positions ns qs)) e) (stays ∙ ap (λ ns. rest_mask 32 (positions ns qs)) e);
     }

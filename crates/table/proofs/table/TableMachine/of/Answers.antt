@@ -1,5 +1,5 @@
 use Rattle.std.proofs.Common.{◌+◌, true, length, sym, ap, ◌∙◌, subst, MatchOption}
-use Rattle.std.specs.List.{AllByRecursion as All}
+use Rattle.std.specs.List.{AllByRecursion}
 use Rattle.machine.specs.Asked.{queries_of, listed_names}
 use Rattle.machine.specs.Masks.{mask, deep_mask}
 use Rattle.machine.specs.Queries.{Listed, positions, begins}
@@ -34,6 +34,6 @@ returns c =
       made = made;
       arising = arising-of names qs c.of-moves.result c.start_mask-start.result (c.name_count.result + 1) c.of-moves.ensures.fits stays start cols s c.in_ok-states.ensures;
       lines = c.of-lines.ensures;
-      rule = table_rule (record { names = c.names.result; states = s; lines = c.of-lines.result }) qs (subst (λ ns. All (Listed ns) qs) e c.names.ensures.all) c.of-lines.ensures
+      rule = table_rule (record { names = c.names.result; states = s; lines = c.of-lines.result }) qs (subst (λ ns. AllByRecursion (Listed ns) qs) e c.names.ensures.all) c.of-lines.ensures
           (subst (λ ns. Made (leads (positions ns qs)) (length ns + 1) (mask (begins qs)) s) e made);
     }
