@@ -1,4 +1,4 @@
--- What is answered after text, tags and well_formed content.
+-- What is answered after text, tags and well-formed content.
 use Rattle.std.proofs.Common.{◌≡◌, ℕ, ◌+◌, Bool, true, false, List, [], ◌∷◌, ◌++◌, length, Ok, Err, Result, sym, refl, ap, ◌∙◌, append_assoc, arith, length-append}
 use Rattle.std.specs.Str.{bytes_eq}
 use Rattle.std.proofs.lemmas.Slice.Eq.{bytes_eq-Decides}
@@ -79,7 +79,7 @@ after os {ns} {at} r q (an_element {t} {s} {c} {e = x} {r = d} {n} {es} {fs} e S
     ∙ front_more a (path os ++ n ∷ []) (es ++ fs) end
     ∙ (λ i. in_front (placed_at a (q i ++ n ∷ []) ∷ (es ++ fs)) (answer os (to i) r)))
 
--- the elements of well_formed content
+-- the elements of well-formed content
 abbrev pub Found : List (List ℕ) → ℕ → List ℕ → Type 0
 Found ns at c = (es : List Element) × Holds ns at c es
 

@@ -16,7 +16,7 @@ placed_at p ns = record { place = p; path = ns }
 abbrev pub opened_at : ℕ → List ℕ → Opened
 opened_at p n = record { place = p; name = n }
 
--- well_formed bytes under the path ns, the first of them at `at`, with the place and path of each element, in the order of their start and empty tags
+-- well-formed bytes under the path ns, the first of them at `at`, with the place and path of each element, in the order of their start and empty tags
 pub data Holds : List (List ℕ) → ℕ → List ℕ → List Element → Type 0 where
   no_elements : {ns : List (List ℕ)} {at : ℕ} {t : List ℕ} → Text t → Holds ns at t []
   an_empty : {ns : List (List ℕ)} {at : ℕ} {t e r n : List ℕ} {es : List Element} → Text t → Tag Empty n e →

@@ -74,7 +74,7 @@ pub record Faithfully {A P : Type 0} (m : Model A P) (file : List ℕ) (w : Stag
   pub answers : (a : Answer) → s.reply ≡ Answered (Ok a) → Ended (own m.verdict file) w.found (Ok a) v.found
   -- it tells matches exactly if the file follows the rule for content
   pub rule : (a : Answer) → s.reply ≡ Answered (Ok a) → Iff ((n : ℕ) × (a ≡ answer.Matches n)) (WellFormed file)
-  -- and whatever it tells is told by what the bytes say: the elements of well_formed content, or where and how they first go wrong
+  -- and whatever it tells is told by what the bytes say: the elements of well-formed content, or where and how they first go wrong
   pub told : (a : Answer) → s.reply ≡ Answered (Ok a) → (o : Result (List Match) Fault) × Told m.verdict file o × Ended o w.found (Ok a) v.found
   -- a finish of a piece over the whole file, of which no earlier question is answered no, is refused exactly if the file's own matches are more than the match list has places
   pub room : (piece : ℕ) (r : Result Answer Refusal) → s.call ≡ Finish piece → s.reply ≡ Answered r → asked_whole file w.held piece None ≡ None → AnswerSays (own m.verdict file) w.found r v.found

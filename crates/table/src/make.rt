@@ -1,6 +1,5 @@
 //! A table machine is made.
-ghost use Rattle.std.specs.Prelude.{◌≡◌, ℕ, false, List, replicate, MatchResult};
-ghost use Rattle.std.specs.Option as options;
+ghost use Rattle.std.specs.Prelude.{◌≡◌, ℕ, false, List, replicate, MatchOption, MatchResult};
 ghost use Rattle.machine.specs.Asked.{queries_of, listed_names};
 ghost use Rattle.table.specs.declared.action.TableAction.{TableAction};
 ghost use Rattle.table.specs.Tables.{tabled};
@@ -28,7 +27,7 @@ impl TableMachine {
     }
 
     fn of(queries: &Queries) -> Option<TableMachine>
-        ensures { options.MatchOption result (TooMany (listed_names queries.now) (queries_of queries.now)) (TableOf queries.now) }
+        ensures { MatchOption result (TooMany (listed_names queries.now) (queries_of queries.now)) (TableOf queries.now) }
     {
         let stays = deep_mask(queries.positions());
         let moves = Moves::of(queries, stays);
