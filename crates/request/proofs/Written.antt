@@ -78,9 +78,9 @@ ended-parted : (l : List ℕ) (ls : List (List ℕ)) → ended (l ∷ ls) ≡ pa
 ended-parted l [] = refl
 ended-parted l (k ∷ ls) = ap (λ r. l ++ (10 ∷ r)) (ended-parted k ls) ∙ sym (append_assoc l (10 ∷ parted_on 10 k ls) (10 ∷ []))
 
-get_d_front : (xs : List ℕ) (y : ℕ) (ys : List ℕ) → get_or (xs ++ (y ∷ ys)) (length xs) 0 ≡ y
-get_d_front [] y ys = refl
-get_d_front (x ∷ xs) y ys = get_d_front xs y ys
+get_or-front : (xs : List ℕ) (y : ℕ) (ys : List ℕ) → get_or (xs ++ (y ∷ ys)) (length xs) 0 ≡ y
+get_or-front [] y ys = refl
+get_or-front (x ∷ xs) y ys = get_or-front xs y ys
 
 -- the query lines
 
@@ -109,7 +109,7 @@ parted-last l (k ∷ ls) h hs e =
 text_at : (bytes p rest : List ℕ) → bytes ≡ p ++ (10 ∷ rest) → blank_line bytes ≡ length p + 1 → lines_ahead bytes ≡ p
 text_at bytes p rest e n =
     let k : blank_line bytes - 1 ≡ length p = omega arith in
-    let last : get_or bytes (blank_line bytes - 1) 0 ≡ 10 = ap (λ i. get_or bytes i 0) k ∙ ap (λ l. get_or l (length p) 0) e ∙ get_d_front p 10 rest in
+    let last : get_or bytes (blank_line bytes - 1) 0 ≡ 10 = ap (λ i. get_or bytes i 0) k ∙ ap (λ l. get_or l (length p) 0) e ∙ get_or-front p 10 rest in
     let t : (ltb 0 (blank_line bytes) && eqb (get_or bytes (blank_line bytes - 1) 0) 10) ≡ true = and_from (ltb 0 (blank_line bytes)) (eqb (get_or bytes (blank_line bytes - 1) 0) 10) (lt-ltb 0 (blank_line bytes) (omega arith)) (eq-eqb (get_or bytes (blank_line bytes - 1) 0) 10 last) in
     ap (λ b. take (cond b (blank_line bytes - 1) (blank_line bytes)) bytes) t ∙ ap (λ i. take i bytes) k ∙ ap (take (length p)) e ∙ take-append_seam p (10 ∷ rest)
 

@@ -6,4 +6,6 @@ pub mod answering;
 pub mod printing;
 
 pub use answering::answer_input;
+pub use listing::listing_of;
 pub use printing::print_of;
+pub use solving::{Outcome, outcome_of, plan_calls, solve};
