@@ -42,8 +42,8 @@ fn good_tags(rt: HostRuntime) -> Result<(), Fail> {
         (b"</a>", TagKind::End, b"a"),
         (b"</day\n>", TagKind::End, b"day"),
     ];
-    for case in cases.iter() {
-        good(&rt, case.0, case.1, case.2)?;
+    for (bytes, kind, name) in cases {
+        good(&rt, bytes, kind, name)?;
     }
     Ok(())
 }
@@ -65,8 +65,8 @@ fn bad_tags(rt: HostRuntime) -> Result<(), Fail> {
         (b"a", 4, 0),
         (b"", 4, 0),
     ];
-    for case in cases.iter() {
-        bad(&rt, case.0, case.1, case.2)?;
+    for (bytes, number, byte) in cases {
+        bad(&rt, bytes, number, byte)?;
     }
     Ok(())
 }
@@ -85,10 +85,10 @@ fn places_in_a_file(rt: HostRuntime) -> Result<(), Fail> {
         byte: 9,
     };
     let cases = [(4usize, 9usize, stray), (4, 100, stray), (9, 4, none)];
-    for case in cases.iter() {
-        match read_tag(file, case.0, case.1) {
+    for (mark, to, expected) in cases {
+        match read_tag(file, mark, to) {
             Ok(_) => return Err(Fail::new("good tag")),
-            Err(fault) => assert_eq!(rt; fault, case.2),
+            Err(fault) => assert_eq!(rt; fault, expected),
         }
     }
     Ok(())
@@ -106,9 +106,9 @@ fn marks_of_parts(rt: HostRuntime) {
         (1, 9, (4, 4, 1)),
         (9, 9, (9, 9, 0)),
     ];
-    for case in cases.iter() {
-        let found = scan(file, case.0, case.1);
-        assert_eq!(rt; found, case.2);
-        assert_eq!(rt; next_mark(file, case.0, case.1), found.0);
+    for (from, to, expected) in cases {
+        let found = scan(file, from, to);
+        assert_eq!(rt; found, expected);
+        assert_eq!(rt; next_mark(file, from, to), found.0);
     }
 }

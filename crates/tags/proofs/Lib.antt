@@ -1,4 +1,3 @@
 pub mod Parts
 mod Blocks
 mod Reading
-mod Scanning

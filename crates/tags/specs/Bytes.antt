@@ -1,5 +1,5 @@
 -- Classes of bytes.
-use Rattle.std.specs.Prelude.{ℕ, Bool, ◌&&◌, ◌||◌, ◌==◌, nat_le}
+use Rattle.std.specs.Prelude.{ℕ, Bool, not, ◌&&◌, ◌||◌, ◌==◌, nat_le}
 
 abbrev pub within : ℕ → ℕ → ℕ → Bool
 within low high b = nat_le low b && nat_le b high
@@ -22,3 +22,7 @@ white b = b == 32 || (b == 9 || (b == 10 || b == 13))
 -- a mark: `<`
 abbrev pub mark : ℕ → Bool
 mark b = b == 60
+
+-- what a value in these quotes may go on with
+abbrev pub in_value : ℕ → ℕ → Bool
+in_value quote b = not (b == quote || mark b)

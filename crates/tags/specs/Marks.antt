@@ -1,5 +1,5 @@
 -- Where the marks of a file lie.
-use Rattle.std.specs.Prelude.{ℕ, ◌+◌, cond, not, List, [], ◌∷◌, length}
+use Rattle.std.specs.Prelude.{◌≡◌, ℕ, ◌+◌, ◌<◌, true, false, cond, not, List, [], ◌∷◌, length, Option, MatchOption, slice_index}
 use Rattle.std.specs.List.{between, prefix_len}
 use Rattle.tags.specs.Bytes.{mark}
 
@@ -34,6 +34,15 @@ scanned file from to = ends to (marks_of file from to)
 -- how many bytes stand before the first mark, all of them if there is none
 abbrev pub unmarked : List ℕ → ℕ
 unmarked bs = prefix_len (λ b. not (mark b)) bs
+
+-- r is the place of the first mark of some bytes, or nothing where they have none
+abbrev pub IsFirstMark : List ℕ → Option ℕ → Type 0
+IsFirstMark bs r = MatchOption r (unmarked bs ≡ length bs) (λ k. (k ≡ unmarked bs) × (k < length bs))
+
+-- r is the place of their last mark, or nothing where they have none
+abbrev pub IsLastMark : List ℕ → Option ℕ → Type 0
+IsLastMark bs r = MatchOption r ((k : ℕ) → k < length bs → mark (slice_index bs k) ≡ false)
+    (λ k. (k < length bs) × (mark (slice_index bs k) ≡ true) × ((j : ℕ) → k < j → j < length bs → mark (slice_index bs j) ≡ false))
 
 abbrev pub mark_count : List ℕ → ℕ
 mark_count bs = length (marks bs 0)

@@ -3,6 +3,7 @@
 #![tactic(auto)]
 
 pub mod marks;
+mod part;
 pub mod reader;
 pub mod tag;
 

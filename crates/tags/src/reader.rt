@@ -1,9 +1,10 @@
 //! Reads one tag.
 ghost use Rattle.std.specs.Prelude.{◌≡◌, ℕ, ◌<◌, ◌≤◌, true, false, length, IfErr, ◌==◌, slice_index};
-ghost use Rattle.tags.specs.Bytes.{name_byte, mark};
+ghost use Rattle.tags.specs.Bytes.{name_byte, in_value};
 ghost use Rattle.tags.specs.Steps.{next, in_name, cause_at_end, Stays};
 ghost use Rattle.tags.specs.Reads.{read_tag, outcome, shown, tag_at};
 
+use crate::part::part;
 use crate::tag::{Cause, Tag, TagFault, TagKind};
 
 /// Where in a tag the reader stands.
@@ -125,11 +126,12 @@ fn is_name_byte(b: u8) -> bool
     matches!(b, b'a'..=b'z' | b'A'..=b'Z' | b'_' | b':' | b'0'..=b'9' | b'-' | b'.')
 }
 
-/// Where the bytes of a name end that go on from `from`.
+/// Where the bytes of a name end that go on from `from`. A loop over places: through an iterator, files of short tags took a fifth longer.
 fn name_end(stretch: &[u8], from: usize) -> usize
     requires { from ≤ length stretch.now }
     ensures within { (from ≤ result) × (result ≤ length stretch.now) }
     ensures all { (k : ℕ) → from ≤ k → k < result → name_byte (slice_index stretch.now k) ≡ true }
+    ensures stops { result < length stretch.now → name_byte (slice_index stretch.now result) ≡ false }
 {
     for i in from..stretch.len() {
         if !is_name_byte(stretch[i]) {
@@ -139,11 +141,12 @@ fn name_end(stretch: &[u8], from: usize) -> usize
     stretch.len()
 }
 
-/// Where the bytes of a value in these quotes end that go on from `from`.
+/// Where the bytes of a value in these quotes end that go on from `from`. A loop over places, as for names.
 fn value_end(stretch: &[u8], from: usize, quote: u8) -> usize
     requires { from ≤ length stretch.now }
     ensures within { (from ≤ result) × (result ≤ length stretch.now) }
-    ensures all { (k : ℕ) → from ≤ k → k < result → ((slice_index stretch.now k == quote) ≡ false) × (mark (slice_index stretch.now k) ≡ false) }
+    ensures all { (k : ℕ) → from ≤ k → k < result → in_value quote (slice_index stretch.now k) ≡ true }
+    ensures stops { result < length stretch.now → in_value quote (slice_index stretch.now result) ≡ false }
 {
     for i in from..stretch.len() {
         if stretch[i] == quote || stretch[i] == b'<' {
@@ -204,20 +207,9 @@ fn read_stretch<'a>(stretch: &'a [u8]) -> Result<Tag<'a>, Stop>
 pub fn read_tag<'a>(file: &'a [u8], mark: usize, to: usize) -> Result<Tag<'a>, TagFault>
     ensures { shown result ≡ tag_at file.now mark to }
 {
-    let end = to.min(file.len());
-    if mark >= end {
-        return Err(TagFault {
-            mark,
-            cause: Cause::Misplaced,
-            byte: mark,
-        });
-    }
-    match read_stretch(&file[mark..end]) {
-        Ok(tag) => Ok(tag),
-        Err(stop) => Err(TagFault {
-            mark,
-            cause: stop.cause,
-            byte: mark + stop.at,
-        }),
-    }
+    read_stretch(part(file, mark, to)).map_err(|stop| TagFault {
+        mark,
+        cause: stop.cause,
+        byte: mark + stop.at,
+    })
 }

@@ -52,25 +52,20 @@ impl<'a> Tag<'a> {
 #[derive(Clone, Copy, Debug, PartialEq, Eq)]
 pub enum Cause {
     /// An element name must begin here.
-    NoName,
+    NoName = 1,
     /// An attribute name has begun, and its `=` has not come.
-    NoEquals,
+    NoEquals = 2,
     /// A quote must open or close here.
-    NoQuote,
+    NoQuote = 3,
     /// Anything else.
-    Misplaced,
+    Misplaced = 4,
 }
 
 impl Cause {
     pub fn number(self) -> u8
         ensures { result ≡ cause_number self }
     {
-        match self {
-            Cause::NoName => 1,
-            Cause::NoEquals => 2,
-            Cause::NoQuote => 3,
-            Cause::Misplaced => 4,
-        }
+        self as u8
     }
 }
 

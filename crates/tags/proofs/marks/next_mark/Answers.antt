@@ -1,15 +1,11 @@
-use Rattle.std.proofs.Common.{◌+◌, ap, ◌∙◌, arith}
-use Rattle.tags.specs.Marks.{first_or}
-use Rattle.tags.proofs.Blocks.{past-block, in_block}
+use Rattle.std.proofs.Common.{ap, ◌∙◌, rules}
+use Rattle.tags.specs.Marks.{first_or, marks}
+use Rattle.tags.proofs.Blocks.{first-marked-or}
 use Rattle.tags.proofs.marks.next_mark.Goals as goal
 
-pub returns-then-ahead-lt16 : goal.returns-then-ahead-lt16
-returns-then-ahead-lt16 c =
-    let at = c.loop-at.at in
-    let e = c.unmarked-ahead.ensures in
-    ap (λ n. at + n) e ∙ in_block c.args.file.now at c.args.to (omega arith) (omega arith) (omega (arith, e, c.if-ahead-lt16.true)) ∙ c.loop-at.invariant
-
-pub loop-at-preserved : goal.loop-at-preserved
-loop-at-preserved c =
+pub returns : goal.returns
+returns c =
+    let from = c.args.from in
     let to = c.args.to in
-    ap (first_or to) (past-block c.args.file.now c.loop-at.at to (omega arith) (omega arith) (omega (arith, c.unmarked-ahead.ensures, c.if-ahead-lt16.false))) ∙ c.loop-at.invariant
+    first-marked-or c.part.result.now from to c.first_mark.result c.map_or.result c.first_mark.ensures (search rules)
+    ∙ ap (λ bs. first_or to (marks bs from)) c.part.ensures.bytes

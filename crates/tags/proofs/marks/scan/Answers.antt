@@ -1,37 +1,27 @@
-use Rattle.std.proofs.Common.{◌≡◌, ◌+◌, refl, arith}
-use Rattle.tags.proofs.Blocks.{none-counted, with-marks, without-marks, none_yet, scanned-none, scanned-some}
+use Rattle.std.proofs.Common.{◌∙◌, length, ap, rules, arith}
+use Rattle.std.specs.Slice.Iter.{chunks_rest}
+use Rattle.tags.proofs.Blocks.{few, with-marks, without-marks, all-counted}
 use Rattle.tags.proofs.marks.scan.Goals as goal
 
-pub loop-at-init : goal.loop-at-init
-loop-at-init c = none-counted c.args.file.now c.args.from c.args.to
+pub overflow_add-count : goal.overflow_add-count
+overflow_add-count c = omega (arith, few c.in-Some.block.now (chunks_rest c.next.new.self) c.count_marks-marks.result c.loop-block.invariant.3 c.in-Some.ensures.steps.1.0 c.count_marks-marks.ensures, ap length c.part.ensures.bytes)
 
-pub loop-at-preserved-then-marks-gt0 : goal.loop-at-preserved-then-marks-gt0
-loop-at-preserved-then-marks-gt0 c =
-    with-marks c.args.file.now c.args.from c.args.to c.loop-at.at c.loop-at.count c.loop-at.lead c.loop-at.low c.loop-at.high
-    (c.loop-at.at + c.min.result) c.count_marks-marks.result c.loop-at.invariant (omega arith) (omega arith) (omega arith) c.count_marks-marks.ensures (omega arith) (c.loop-at.count + c.count_marks-marks.result) refl
+pub loop-block-preserved-then-marks-gt0 : goal.loop-block-preserved-then-marks-gt0
+loop-block-preserved-then-marks-gt0 c = (
+  omega (arith, c.in-Some.ensures.steps.0),
+  tt,
+  c.in-Some.ensures.steps.0 ∙ c.loop-block.invariant.2,
+  with-marks c.in-Some.block.now (chunks_rest c.next.new.self) c.count_marks-marks.result c.loop-block.invariant.3 c.in-Some.ensures.steps.1.0 c.count_marks-marks.ensures c.if-marks-gt0.true,
+)
 
-pub loop-at-preserved-then-count-eq0 : goal.loop-at-preserved-then-count-eq0
-loop-at-preserved-then-count-eq0 c =
-    let file = c.args.file.now in
-    let from = c.args.from in
-    let to = c.args.to in
-    let at = c.loop-at.at in
-    let stop = at + c.min.result in
-    let n = c.count_marks-marks.result in
-    let none : n ≡ 0 = omega arith in
-    without-marks file from to at c.loop-at.count c.loop-at.lead c.loop-at.low c.loop-at.high stop n c.loop-at.invariant (omega arith) (omega arith) (omega arith) c.count_marks-marks.ensures none stop
-    (none_yet file from to at c.loop-at.count c.loop-at.lead c.loop-at.low c.loop-at.high stop n c.loop-at.invariant (omega arith) (omega arith) (omega arith) c.count_marks-marks.ensures none c.if-count-eq0.true)
-
-pub loop-at-preserved : goal.loop-at-preserved
-loop-at-preserved c =
-    without-marks c.args.file.now c.args.from c.args.to c.loop-at.at c.loop-at.count c.loop-at.lead c.loop-at.low c.loop-at.high
-    (c.loop-at.at + c.min.result) c.count_marks-marks.result c.loop-at.invariant (omega arith) (omega arith) (omega arith) c.count_marks-marks.ensures (omega arith) c.loop-at.lead c.loop-at.invariant.none_ahead
-
-pub returns-then-count-eq0-2 : goal.returns-then-count-eq0-2
-returns-then-count-eq0-2 c =
-    scanned-none c.args.file.now c.args.from c.args.to c.loop-at.at c.loop-at.count c.loop-at.lead c.loop-at.low c.loop-at.high c.loop-at.invariant (omega arith) c.if-count-eq0-2.true
+pub loop-block-preserved : goal.loop-block-preserved
+loop-block-preserved c = (
+  omega (arith, c.in-Some.ensures.steps.0),
+  tt,
+  c.in-Some.ensures.steps.0 ∙ c.loop-block.invariant.2,
+  without-marks c.in-Some.block.now (chunks_rest c.next.new.self) c.count_marks-marks.result c.loop-block.invariant.3 c.in-Some.ensures.steps.1.0 c.count_marks-marks.ensures (omega arith),
+)
 
 pub returns : goal.returns
 returns c =
-    scanned-some c.args.file.now c.args.from c.args.to c.loop-at.at c.loop-at.count c.loop-at.lead c.loop-at.low c.loop-at.high c.loop-at.invariant (omega arith)
-    (omega (arith, c.if-count-eq0-2.false)) c.next_mark.result c.last_mark.result c.next_mark.ensures c.last_mark.ensures
+    all-counted c.args.file.now c.args.from c.args.to c.next_mark-first.result c.last_mark.result c.map_or.result c.next_mark-first.ensures c.loop-block.invariant.3 c.in-None.ensures.steps.1.0 c.last_mark.ensures (search rules)
