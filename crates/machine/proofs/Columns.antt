@@ -1,9 +1,10 @@
 -- Columns of names.
-use Rattle.std.proofs.Common.{◌≡◌, ℕ, suc, ◌+◌, ◌-◌, ◌<◌, ◌≤◌, true, false, eqb, List, [], ◌∷◌, ◌++◌, length, get_or, take, drop, sym, refl, ap, ◌∙◌, inl, inr, arith}
+use Rattle.std.proofs.Common.{◌≡◌, ℕ, zero, suc, ◌+◌, ◌-◌, ◌<◌, ◌≤◌, true, false, eqb, List, [], ◌∷◌, ◌++◌, map, length, get_or, Option, None, Some, sym, refl, ap, ◌∙◌, inl, inr, arith}
+use Rattle.std.specs.List.{AllWithin, HoldsAt}
+use Rattle.std.specs.Option.{MatchOption}
 use Rattle.std.specs.Str.{bytes_eq}
 use Rattle.std.proofs.ByRecursion.{All-get_or}
 use Rattle.std.proofs.lemmas.Slice.Eq.{bytes_eq-Decides}
-use Rattle.std.proofs.lemmas.List.{take-append-drop, drop_more, take_more, take_all, length-take-le}
 use Rattle.std.proofs.lemmas.Bool.{cases_Bool, cases_eq, cond-true, cond-false, eq-eqb, ne_eqb}
 use Rattle.std.proofs.lemmas.Bool.Decides.{nat_tests}
 use Rattle.machine.specs.Queries.{column, noted}
@@ -13,10 +14,6 @@ use Rattle.machine.specs.Limits.{longest_name, NamesFit}
 column-at : (xs : List (List ℕ)) (m : List ℕ) (ys : List (List ℕ)) (n : List ℕ) → column xs n ≡ 0 → bytes_eq m n ≡ true → column (xs ++ m ∷ ys) n ≡ length xs + 1
 column-at [] m ys n e s = grind (arith, nat_tests, s)
 column-at (x ∷ xs) m ys n e s = let ih = column-at xs m ys n in grind (arith, nat_tests, ih, s)
-
-column-push : (xs : List (List ℕ)) (m n : List ℕ) → column xs n ≡ 0 → bytes_eq m n ≡ false → column (xs ++ m ∷ []) n ≡ 0
-column-push [] m n e s = grind (arith, nat_tests, s)
-column-push (x ∷ xs) m n e s = let ih = column-push xs m n in grind (arith, nat_tests, ih, s)
 
 -- more names keep the columns of those before
 pub column-append : (xs ys : List (List ℕ)) (n : List ℕ) → 0 < column xs n → column (xs ++ ys) n ≡ column xs n
@@ -73,15 +70,25 @@ long_name ns n l f =
     let short = All-get_or (λ m. length m ≤ longest_name) ms (column ms n - 1) [] (omega (arith, column-le ms n)) f.short in
     omega (arith, ap length (name-at ms n h))
 
--- a search through the names, one by one
-module _ (ns : List (List ℕ)) (i : ℕ) (n : List ℕ) where
-  pub column-found : i < length ns → column (take i ns) n ≡ 0 → bytes_eq (get_or ns i []) n ≡ true → i + 1 ≡ column ns n
-  column-found l e s =
-      let split : ns ≡ take i ns ++ get_or ns i [] ∷ drop (i + 1) ns = sym (take-append-drop i ns) ∙ ap (λ r. take i ns ++ r) (drop_more ns i [] l) in
-      omega (arith, length-take-le i ns (omega arith), column-at (take i ns) (get_or ns i []) (drop (i + 1) ns) n e s, ap (λ x. column x n) split)
+-- a search for a name through what the names are of
+module _ {X : Type 0} (of : X → List ℕ) where
+  column-none : (xs : List X) (n : List ℕ) → AllWithin (λ x. bytes_eq (of x) n ≡ false) xs 0 (length xs) → column (map of xs) n ≡ 0
+  column-none [] n h = refl
+  column-none (x ∷ xs) n h =
+      let other = h 0 x (omega arith) (omega arith) in
+      let ih = column-none xs n (λ k d low high. h (suc k) d (omega arith) (omega (arith, high))) in
+      grind (arith, nat_tests, other, ih)
 
-  pub column-skip : i < length ns → column (take i ns) n ≡ 0 → bytes_eq (get_or ns i []) n ≡ false → column (take (i + 1) ns) n ≡ 0
-  column-skip l e s = ap (λ x. column x n) (take_more ns i [] l) ∙ column-push (take i ns) (get_or ns i []) n e s
+  column-found : (xs : List X) (n : List ℕ) (i : ℕ) → i < length xs → HoldsAt (λ x. bytes_eq (of x) n ≡ true) xs i → AllWithin (λ x. bytes_eq (of x) n ≡ false) xs 0 i → column (map of xs) n ≡ i + 1
+  column-found [] n i l h others = absurd (omega (arith, l))
+  column-found (x ∷ xs) n zero l h others = let same = h x in grind (arith, nat_tests, same)
+  column-found (x ∷ xs) n (suc i) l h others =
+      let other = others 0 x (omega arith) (omega arith) in
+      let ih = column-found xs n i (omega (arith, l)) h (λ k d low high. others (suc k) d (omega arith) (omega (arith, high))) in
+      grind (arith, nat_tests, other, ih)
 
-  pub column-none : length ns ≤ i → column (take i ns) n ≡ 0 → 0 ≡ column ns n
-  column-none l e = sym (sym (ap (λ x. column x n) (take_all i ns l)) ∙ e)
+  pub column-first : (xs : List X) (n : List ℕ) (r : Option ℕ) (k : ℕ)
+      → MatchOption r (AllWithin (λ x. bytes_eq (of x) n ≡ false) xs 0 (length xs)) (λ i. (i < length xs) × HoldsAt (λ x. bytes_eq (of x) n ≡ true) xs i × AllWithin (λ x. bytes_eq (of x) n ≡ false) xs 0 i)
+      → MatchOption r (k ≡ 0) (λ i. k ≡ i + 1) → k ≡ column (map of xs) n
+  column-first xs n None k h e = e ∙ sym (column-none xs n h)
+  column-first xs n (Some i) k h e = e ∙ sym (column-found xs n i h.0 h.1 h.2)

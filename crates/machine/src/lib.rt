@@ -2,9 +2,7 @@
 
 #![tactic(auto)]
 
-mod build;
 pub mod laws;
-mod lookup;
 pub mod machine;
 mod measure;
 mod name;

@@ -6,60 +6,43 @@ ghost use Rattle.machine.specs.Refusals.{refusal_number};
 #[derive(Clone, Copy, Debug, PartialEq, Eq)]
 pub enum Refusal {
     /// The query text is too long.
-    TextTooLong,
+    TextTooLong = 1,
     /// The query text is not one to eight lines, each a query.
-    NotQueries,
+    NotQueries = 2,
     /// The queries have too many positions: steps and lines together.
-    TooManyPositions,
+    TooManyPositions = 3,
     /// The queries use too many different names, or one that is too long.
-    NamesOverLimit,
+    NamesOverLimit = 4,
     /// Too many sets of positions arise for the table machine.
-    TooManySets,
+    TooManySets = 5,
     /// The file is longer than a job can be opened for.
-    FileTooLong,
+    FileTooLong = 6,
     /// The file is not as long as the one that the job was opened for.
-    OtherLength,
+    OtherLength = 7,
     /// A list ends before the rows that are in use.
-    ListsTooShort,
+    ListsTooShort = 8,
     /// The bytes named do not lie in the file in this order.
-    OutOfRange,
+    OutOfRange = 9,
     /// A piece was named that has not been made.
-    NoSuchPiece,
+    NoSuchPiece = 10,
     /// The left piece does not end where the right one begins.
-    PiecesApart,
+    PiecesApart = 11,
     /// The piece does not run over the whole file.
-    NotWhole,
+    NotWhole = 12,
     /// A row of a named piece has no name in the file.
-    RowsBroken,
+    RowsBroken = 13,
     /// As many pieces as a job can hold are made.
-    TooManyPieces,
+    TooManyPieces = 14,
     /// A list has fewer unused rows than the new piece has marks.
-    NoRoomForRows,
+    NoRoomForRows = 15,
     /// The match list has fewer entries than there are matches.
-    NoRoomForMatches,
+    NoRoomForMatches = 16,
 }
 
 impl Refusal {
     pub fn number(self) -> u8
         ensures { result ≡ refusal_number self }
     {
-        match self {
-            Refusal::TextTooLong => 1,
-            Refusal::NotQueries => 2,
-            Refusal::TooManyPositions => 3,
-            Refusal::NamesOverLimit => 4,
-            Refusal::TooManySets => 5,
-            Refusal::FileTooLong => 6,
-            Refusal::OtherLength => 7,
-            Refusal::ListsTooShort => 8,
-            Refusal::OutOfRange => 9,
-            Refusal::NoSuchPiece => 10,
-            Refusal::PiecesApart => 11,
-            Refusal::NotWhole => 12,
-            Refusal::RowsBroken => 13,
-            Refusal::TooManyPieces => 14,
-            Refusal::NoRoomForRows => 15,
-            Refusal::NoRoomForMatches => 16,
-        }
+        self as u8
     }
 }

@@ -1,20 +1,15 @@
 use machine::{Position, Queries};
+use std::array;
 use std::test::Fail;
 
 /// The number of the refusal, or 0.
 fn refused(text: &[u8]) -> u8 {
-    match Queries::read(text) {
-        Ok(_) => 0,
-        Err(why) => why.number(),
-    }
+    Queries::read(text).map_or_else(|why| why.number(), |_| 0)
 }
 
 #[test]
 fn length(rt: HostRuntime) -> Result<(), Fail> {
-    let mut text = [b'a'; 513];
-    for i in 0..21 {
-        text[25 * i] = b'/';
-    }
+    let text: [u8; 513] = array::from_fn(|i| if i % 25 == 0 { b'/' } else { b'a' });
     assert_eq!(rt; refused(&text[0..512]), 0);
     assert_eq!(rt; refused(&text[0..513]), 1);
     Ok(())
@@ -58,10 +53,7 @@ fn texts(rt: HostRuntime) {
 
 #[test]
 fn positions(rt: HostRuntime) -> Result<(), Fail> {
-    let mut text = [b'*'; 64];
-    for i in 0..32 {
-        text[2 * i] = b'/';
-    }
+    let mut text: [u8; 64] = array::from_fn(|i| if i % 2 == 0 { b'/' } else { b'*' });
     assert_eq!(rt; refused(&text[0..62]), 0);
     assert_eq!(rt; refused(&text[0..64]), 3);
     text[63] = b'/';

@@ -24,8 +24,7 @@ impl Queries {
         ensures list { result.now ≡ positions (listed_names self.now) (queries_of self.now) }
         ensures few { length result.now ≤ most_positions }
     {
-        let count = self.plan.count;
-        &self.plan.list[0..count]
+        self.plan.positions()
     }
 
     /// The last position of each query.
@@ -33,8 +32,7 @@ impl Queries {
         ensures list { result.now ≡ ends 0 (queries_of self.now) }
         ensures few { length result.now ≤ most_lines }
     {
-        let count = self.count();
-        &self.plan.lasts[0..count]
+        self.plan.lasts()
     }
 
     /// The names, in the order of first use; the steps use no other.

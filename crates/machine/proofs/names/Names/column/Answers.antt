@@ -1,25 +1,15 @@
-use Rattle.std.proofs.Common.{sym, ap, ◌∙◌, arith}
+use Rattle.std.proofs.Common.{◌≡◌, true, false, ap, ◌∙◌, rules}
 use Rattle.std.specs.Str.{bytes_eq}
-use Rattle.machine.specs.Views.{names_of}
-use Rattle.machine.proofs.Columns.{column-found, column-skip, column-none}
-use Rattle.machine.proofs.Viewed.{length-names, get_or-names}
+use Rattle.std.proofs.lemmas.Iterator.{YieldsList-from_slice, IsFirst-from_position}
+use borrow.Author.Tests.{tests}
+use Rattle.machine.specs.Queries.{column}
+use Rattle.machine.specs.Views.{bytes_of}
+use Rattle.machine.proofs.Columns.{column-first}
 use Rattle.machine.proofs.names.Names.column.Goals as goal
-
-pub returns-then-is : goal.returns-then-is
-returns-then-is c =
-    let ns = c.args.self.now in
-    let n = c.args.name.now in
-    column-found (names_of ns) c.loop-i.i n (omega (arith, length-names ns)) c.loop-i.invariant
-    (ap (λ x. bytes_eq x n) (get_or-names ns c.loop-i.i c.index-self-i.result c.loop-i-test.true) ∙ sym c.is.ensures ∙ c.if-is.true)
-
-pub loop-i-preserved : goal.loop-i-preserved
-loop-i-preserved c =
-    let ns = c.args.self.now in
-    let n = c.args.name.now in
-    column-skip (names_of ns) c.loop-i.i n (omega (arith, length-names ns)) c.loop-i.invariant
-    (ap (λ x. bytes_eq x n) (get_or-names ns c.loop-i.i c.index-self-i.result c.loop-i-test.true) ∙ sym c.is.ensures ∙ c.if-is.false)
 
 pub returns : goal.returns
 returns c =
-    let ns = c.args.self.now in
-    column-none (names_of ns) c.loop-i.i c.args.name.now (omega (arith, length-names ns)) c.loop-i.invariant
+    let n = c.args.name.now in
+    let xs = c.as_slice.result.now in
+    let first = IsFirst-from_position _ _ c.position.result (λ x. bytes_eq (bytes_of x) n ≡ true) (λ x. bytes_eq (bytes_of x) n ≡ false) c.position.ensures.ran (YieldsList-from_slice xs cc) (λ x q k. search (rules, tests)) (λ x q k. search (rules, tests)) in
+    column-first bytes_of xs n c.position.result c.map_or.result first (search rules) ∙ ap (λ ns. column ns n) c.as_slice.ensures

@@ -4,7 +4,5 @@ use Rattle.machine.proofs.Columns.{column-le}
 use Rattle.machine.proofs.Kept.{few-names}
 use Rattle.machine.proofs.queries.Queries.column.Goals as goal
 
-pub returns : goal.returns
-returns c =
-    let q = c.args.self.now in
-    record { place = c.column.ensures; few = omega (arith, c.column.ensures, column-le (listed_names q) c.args.name.now, few-names q) }
+pub returns-clause-few : goal.returns-clause-few
+returns-clause-few c = omega (arith, c.column.ensures, column-le (listed_names c.args.self.now) c.args.name.now, few-names c.args.self.now)

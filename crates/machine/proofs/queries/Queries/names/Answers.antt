@@ -1,6 +1,5 @@
-use Rattle.std.proofs.Common.{refl}
 use Rattle.machine.proofs.Kept.{all_listed}
 use Rattle.machine.proofs.queries.Queries.names.Goals as goal
 
-pub returns : goal.returns
-returns c = record { list = refl; all = all_listed c.args.self.now }
+pub returns-clause-all : goal.returns-clause-all
+returns-clause-all c = all_listed c.args.self.now
