@@ -1,8 +1,5 @@
-ghost use Rattle.foreign.specs.Parities.{parities, odd};
-ghost use Rattle.std.proofs.Common.{◌∙◌, ap, arith};
-ghost use Rattle.std.specs.Prelude.{◌∷◌, length, refl};
-ghost use Rattle.foreign.specs.Parities;
-ghost use Rattle.foreign.specs.Laws.{same, differ-assoc, differ-false, along, round};
+ghost use Rattle.foreign.specs.Parities.{parities};
+ghost use Rattle.foreign.specs.Laws.{keeps_laws};
 
 use crate::parity::{Parity, ParityMachine};
 use machine::Machine;
@@ -14,14 +11,7 @@ impl Machine for ParityMachine {
 
     ghost model = { parities };
 
-    ghost lawful = { λ m.
-        record {
-          assoc = λ a b c. same _ _ (differ-assoc a.names b.names c.names) (differ-assoc a.bytes b.bytes c.bytes);
-          left = λ a. refl;
-          right = λ a. same _ _ (differ-false a.names) (differ-false a.bytes);
-          marks_path = λ n ns. ap (parities m).marks (along m 1 (length n) ns ∙ same _ (Parities.parity (length (n ∷ ns)) (Parities.bytes (n ∷ ns))) (ap odd (omega arith)) refl);
-          round = λ a. round m a.names a.bytes;
-        } };
+    ghost lawful = { keeps_laws };
 
     fn stay(&self) -> Parity {
         Parity {
@@ -49,12 +39,7 @@ impl Machine for ParityMachine {
     }
 
     fn plain(&self, a: &Parity) -> u8 {
-        match (a.names, a.bytes) {
-            (false, false) => 0,
-            (true, false) => 1,
-            (false, true) => 2,
-            (true, true) => 3,
-        }
+        u8::from(a.names) + 2 * u8::from(a.bytes)
     }
 
     fn back(&self, p: &u8) -> Parity {

@@ -1,4 +1,4 @@
-use machine::Machine;
+use machine::{Machine, Refusal};
 use relation::RelationMachine;
 use table::TableMachine;
 
@@ -21,15 +21,8 @@ fn marked_back<M: Machine>(m: &M, path: &[&[u8]]) -> [bool; 8] {
 }
 
 /// The number of the refusal, or 0.
-fn tabled(machine: &mut TableMachine, text: &[u8]) -> u8 {
-    match machine.make(text) {
-        Ok(()) => 0,
-        Err(why) => why.number(),
-    }
-}
-
-fn related(machine: &mut RelationMachine, text: &[u8]) -> u8 {
-    match machine.make(text) {
+fn number(made: Result<(), Refusal>) -> u8 {
+    match made {
         Ok(()) => 0,
         Err(why) => why.number(),
     }
@@ -98,8 +91,8 @@ fn machines_agree(rt: HostRuntime) {
     let mut table = TableMachine::new();
     let mut relation = RelationMachine::new();
     for (text, path, met) in &MET {
-        assert_eq!(rt; tabled(&mut table, text), 0);
-        assert_eq!(rt; related(&mut relation, text), 0);
+        assert_eq!(rt; number(table.make(text)), 0);
+        assert_eq!(rt; number(relation.make(text)), 0);
         assert_eq!(rt; marked(&table, path), *met);
         assert_eq!(rt; marked(&relation, path), *met);
         assert_eq!(rt; marked_back(&table, path), *met);
@@ -110,8 +103,8 @@ fn machines_agree(rt: HostRuntime) {
 #[test]
 fn sets(rt: HostRuntime) {
     let mut table = TableMachine::new();
-    assert_eq!(rt; tabled(&mut table, b"//a/*/*/*/*"), 0);
-    assert_eq!(rt; tabled(&mut table, b"//a/*/*/*/*/*"), 5);
+    assert_eq!(rt; number(table.make(b"//a/*/*/*/*")), 0);
+    assert_eq!(rt; number(table.make(b"//a/*/*/*/*/*")), 5);
     assert_eq!(rt; marked(&table, &[b"a", b"b", b"c", b"d", b"e"])[0], true);
 }
 
@@ -119,17 +112,11 @@ fn sets(rt: HostRuntime) {
 fn thirty_two_and_thirty_three_sets(rt: HostRuntime) {
     let mut table = TableMachine::new();
     assert_eq!(rt;
-        tabled(
-            &mut table,
-            b"/*/*/*/*/*/*/*/*/*/*/*/*/*/*/*/*/*/*/*/*/*/*/*/*/*/*/*/*/*/*/*",
-        ),
+        number(table.make(b"/*/*/*/*/*/*/*/*/*/*/*/*/*/*/*/*/*/*/*/*/*/*/*/*/*/*/*/*/*/*/*")),
         5
     );
     assert_eq!(rt;
-        tabled(
-            &mut table,
-            b"/*/*/*/*/*/*/*/*/*/*/*/*/*/*/*/*/*/*/*/*/*/*/*/*/*/*/*/*/*/*",
-        ),
+        number(table.make(b"/*/*/*/*/*/*/*/*/*/*/*/*/*/*/*/*/*/*/*/*/*/*/*/*/*/*/*/*/*/*")),
         0
     );
 }
@@ -137,12 +124,12 @@ fn thirty_two_and_thirty_three_sets(rt: HostRuntime) {
 #[test]
 fn related_takes_more(rt: HostRuntime) {
     let mut relation = RelationMachine::new();
-    assert_eq!(rt; related(&mut relation, b"//a/*/*/*/*/*"), 0);
+    assert_eq!(rt; number(relation.make(b"//a/*/*/*/*/*")), 0);
     assert_eq!(rt;
         marked(&relation, &[b"a", b"b", b"b", b"b", b"b", b"b"])[0],
         true
     );
-    assert_eq!(rt; related(&mut relation, b"//"), 2);
+    assert_eq!(rt; number(relation.make(b"//")), 2);
     assert_eq!(rt;
         marked(&relation, &[b"a", b"b", b"b", b"b", b"b", b"b"])[0],
         true

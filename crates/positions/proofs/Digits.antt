@@ -1,10 +1,8 @@
 -- Masks, bit by bit, and the stepping of masks.
-use Rattle.std.proofs.Common.{◌≡◌, ℕ, zero, suc, ◌+◌, ◌*◌, ◌/◌, ◌%◌, ◌^◌, ◌<◌, Bool, true, false, cond, ◌&&◌, ◌||◌, eqb, List, [], ◌∷◌, ◌++◌, map, length, get_or, take, replicate, sym, refl, ap, ◌∙◌, subst, true≢false, add-zero, pow-suc, arith, lit<}
+use Rattle.std.proofs.Common.{◌≡◌, ℕ, zero, suc, ◌+◌, ◌*◌, ◌/◌, ◌%◌, ◌^◌, ◌<◌, Bool, true, false, cond, ◌&&◌, ◌||◌, eqb, List, [], ◌∷◌, ◌++◌, map, length, get_or, replicate, sym, refl, ap, ◌∙◌, true≢false, add-zero, pow-suc, arith, lit<}
 use native.Mathlib.Nat.{zero-div}
-use lib.ListN.{length-map}
-use lib.Bits.{bit_and, bit_or, and_block, or_block, or_shifted_r}
-use Rattle.std.proofs.lemmas.Nat.{shr-shr, div-mul-add, one_shl}
-use Rattle.std.proofs.lemmas.List.{take_more, map_more, length-take-le}
+use lib.Bits.{bit_and, bit_or, and_block, or_block}
+use Rattle.std.proofs.lemmas.Nat.{shr-shr, div-mul-add}
 use Rattle.std.proofs.lemmas.Bool.Decides.{nat_tests}
 use Rattle.machine.specs.Paths.{Step, stepped}
 use Rattle.machine.specs.Masks.{mask, has, moved}
@@ -31,27 +29,6 @@ pub mask-append_none : (bs : List Bool) (k : ℕ) → mask (bs ++ replicate k fa
 unfolding mask
 mask-append_none [] k = mask-none k
 mask-append_none (b ∷ bs) k = ap (λ m. m * 2 + cond b 1 0) (mask-append_none bs k)
-
--- one more bit, as code sets it in a word of w bits
-pub mask-set : (w : ℕ) (bs : List Bool) (j : ℕ) → length bs ≡ j → j < w → bit_or (mask bs) ((1 * 2 ^ j) % 2 ^ w) ≡ mask (bs ++ true ∷ [])
-mask-set w bs j n l =
-    let low : mask bs < 2 ^ j = subst (λ k. mask bs < 2 ^ k) n (mask_lt bs) in
-    ap (bit_or (mask bs)) (one_shl j w l ∙ omega arith) ∙ or_shifted_r 1 j (mask bs) low ∙ omega arith
-    ∙ sym (mask-push bs true ∙ ap (λ k. mask bs + 2 ^ k) n)
-
-pub mask-more : {X : Type 0} (w : ℕ) (f : X → Bool) (ps : List X) (d : X) (j : ℕ) → j < length ps → j < w → f (get_or ps j d) ≡ true
-    → bit_or (mask (map f (take j ps))) ((1 * 2 ^ j) % 2 ^ w) ≡ mask (map f (take (j + 1) ps))
-mask-more w f ps d j l h t =
-    let bs = map f (take j ps) in
-    let n : length bs ≡ j = length-map (take j ps) f ∙ length-take-le j ps (omega arith) in
-    mask-set w bs j n h ∙ ap mask (sym (map_more f ps j d l ∙ ap (λ x. bs ++ x ∷ []) t))
-
-pub mask-skip : {X : Type 0} (f : X → Bool) (ps : List X) (d : X) (j : ℕ) → j < length ps → f (get_or ps j d) ≡ false
-    → mask (map f (take j ps)) ≡ mask (map f (take (j + 1) ps))
-mask-skip f ps d j l t =
-    let bs = map f (take j ps) in
-    let p : mask (bs ++ false ∷ []) ≡ mask bs + 0 = mask-push bs false in
-    omega arith ∙ sym p ∙ ap mask (sym (map_more f ps j d l ∙ ap (λ x. bs ++ x ∷ []) t))
 
 -- a shift by one more
 pub shifted_more : (n j : ℕ) → n / 2 ^ suc j ≡ n / 2 / 2 ^ j
@@ -115,11 +92,3 @@ moves (s ∷ ss) c came (b ∷ bs) e k =
 pub moved-is : (ss : List (Step ℕ)) (c : ℕ) (bs : List Bool) → length bs ≡ length ss → carry ss c false bs ≡ false
     → moved (fitting ss c) (staying ss) (mask bs) ≡ mask (stepped ss c false bs)
 moved-is ss c bs e k = ap (λ x. bit_or x (bit_and (mask bs) (staying ss))) (sym (add-zero (bit_and (mask bs) (fitting ss c) * 2))) ∙ moves ss c false bs e k
-
--- the bits so far of a list of bits, and the first of those to come
-pub bits_more : (w : ℕ) (xs : List Bool) (j : ℕ) (b : Bool) → j < length xs → j < w → b ≡ get_or xs j false
-    → cond b (bit_or (mask (take j xs)) ((1 * 2 ^ j) % 2 ^ w)) (mask (take j xs)) ≡ mask (take (j + 1) xs)
-bits_more w xs j true l h e = mask-set w (take j xs) j (length-take-le j xs (omega arith)) h ∙ ap mask (sym (take_more xs j false l ∙ ap (λ x. take j xs ++ x ∷ []) (sym e)))
-bits_more w xs j false l h e =
-    let p : mask (take j xs ++ false ∷ []) ≡ mask (take j xs) + 0 = mask-push (take j xs) false in
-    omega arith ∙ sym p ∙ ap mask (sym (take_more xs j false l ∙ ap (λ x. take j xs ++ x ∷ []) (sym e)))

@@ -1,6 +1,7 @@
 -- The positions of all queries in one list, and each query by itself.
 use Rattle.std.proofs.Common.{◌≡◌, ℕ, zero, suc, ◌+◌, ◌-◌, ◌<◌, Bool, true, false, ◌&&◌, ◌||◌, List, [], ◌∷◌, ◌++◌, map, length, get_or, replicate, sym, refl, ap, ◌∙◌, append_assoc, arith, length-append}
 use lib.ListN.{length-map, length-replicate}
+use Rattle.std.proofs.Math.Bool.{and-false, or-false}
 use Rattle.std.proofs.lemmas.List.{get_or_append_left, get_or-append_right}
 use Rattle.machine.specs.declared.position.Position.TheVariants.{End}
 use Rattle.machine.specs.Paths.{Step, stepped, run, is_met}
@@ -8,20 +9,12 @@ use Rattle.machine.specs.Queries.{Query, position, as_step, ends}
 use Rattle.machine.proofs.Runs.{length-stepped, run-is_met}
 use Rattle.positions.proofs.Digits.{carry}
 
-and_none : (b : Bool) → (b && false) ≡ false
-and_none true = refl
-and_none false = refl
-
-or_none : (b : Bool) → (b || false) ≡ b
-or_none true = refl
-or_none false = refl
-
 -- an end between two parts hands nothing on
 stepped-split : (q rest : List (Step ℕ)) (c : ℕ) (came : Bool) (bs cs : List Bool) → length bs ≡ suc (length q)
     → stepped (q ++ as_step End ∷ rest) c came (bs ++ cs) ≡ stepped q c came bs ++ stepped rest c false cs
 stepped-split q rest c came [] cs e = absurd (omega arith)
 stepped-split [] rest c came (b ∷ []) cs e =
-    ap (λ x. (came || x) ∷ stepped rest c x cs) (and_none b) ∙ ap (λ x. x ∷ stepped rest c false cs) (or_none came)
+    ap (λ x. (came || x) ∷ stepped rest c x cs) (and-false b) ∙ ap (λ x. x ∷ stepped rest c false cs) (or-false came)
 stepped-split [] rest c came (b ∷ x ∷ bs) cs e = absurd (omega arith)
 stepped-split (s ∷ q) rest c came (b ∷ bs) cs e = ap (λ x. (came || (b && s.deep)) ∷ x) (stepped-split q rest c (b && s.fits c) bs cs (omega arith))
 
@@ -131,7 +124,7 @@ Sealed rest = (c : ℕ) (came : Bool) (bs : List Bool) → came ≡ false → le
 
 sealed_end : (xs rest : List (Step ℕ)) → Sealed rest → (c : ℕ) (came : Bool) (bs : List Bool) → length bs ≡ length (xs ++ as_step End ∷ rest) → carry (xs ++ as_step End ∷ rest) c came bs ≡ false
 sealed_end [] rest h c came [] e = absurd (omega arith)
-sealed_end [] rest h c came (b ∷ bs) e = h c (b && false) bs (and_none b) (omega arith)
+sealed_end [] rest h c came (b ∷ bs) e = h c (b && false) bs (and-false b) (omega arith)
 sealed_end (x ∷ xs) rest h c came [] e = absurd (omega arith)
 sealed_end (x ∷ xs) rest h c came (b ∷ bs) e = sealed_end xs rest h c (b && x.fits c) bs (omega arith)
 

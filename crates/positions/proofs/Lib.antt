@@ -1,6 +1,7 @@
 pub mod Unions
 pub mod Pickings
 pub mod Digits
+pub mod Bits
 pub mod Flat
 pub mod Columns
 pub mod Rule

@@ -1,77 +1,73 @@
 -- The lines, one by one.
-use Rattle.std.proofs.Common.{◌≡◌, ℕ, zero, suc, ◌+◌, ◌<◌, ◌≤◌, List, [], ◌∷◌, length, get_or, set, replicate, sym, refl, ap, ◌∙◌, inl, inr, add-one, arith}
-use Rattle.std.proofs.lemmas.List.{length-set, length-replicate, get_or-set_same, get_or-set_other}
-use Rattle.std.proofs.lemmas.Bool.{cases_eq}
+use Rattle.std.proofs.Common.{◌≡◌, ℕ, zero, suc, ◌+◌, ◌-◌, ◌<◌, ◌≤◌, cond, ltb, ◌&&◌, List, [], ◌∷◌, length, get_or, sym, refl, ◌∙◌, subst, inl, inr, arith}
+use Rattle.std.proofs.lemmas.List.{get_or_past}
+use Rattle.std.proofs.lemmas.Bool.{cases_lt}
+use Rattle.std.proofs.lemmas.Bool.Decides.{nat_tests}
 use Rattle.machine.specs.Queries.{Query, ends, size}
+use Rattle.positions.specs.Tabs.{tab, length_tab, get_or-tab}
 use Rattle.positions.specs.Sets.{firsts}
 use Rattle.positions.specs.Verdicts.{begun}
 
--- the lines below q stand there, and each entry is a position
-pub record Lining (lasts : List ℕ) (q : ℕ) (first last : List ℕ) (next : ℕ) : Type 0 where
-  pub first_long : length first ≡ 8
-  pub last_long : length last ≡ 8
-  pub begin : (k : ℕ) → k < 8 → get_or first k 0 < 32
-  pub end : (k : ℕ) → k < 8 → get_or last k 0 < 32
-  pub first_is : (k : ℕ) → k < q → get_or first k 0 ≡ begun lasts k
-  pub last_is : (k : ℕ) → k < q → get_or last k 0 ≡ get_or lasts k 0
-  pub first_rest : (k : ℕ) → q ≤ k → get_or first k 0 ≡ 0
-  pub last_rest : (k : ℕ) → q ≤ k → get_or last k 0 ≡ 0
-  pub next_is : next ≡ begun lasts q
+-- the first and the last position of the query q, as code finds them, and 0 where there is no such query
+abbrev pub first_of : List ℕ → ℕ → ℕ
+first_of lasts q = cond (ltb 0 q && ltb q (length lasts)) (get_or lasts (q - 1) 0 + 1) 0
 
-set-lt : (xs : List ℕ) (q v : ℕ) → length xs ≡ 8 → q < 8 → v < 32 → ((k : ℕ) → k < 8 → get_or xs k 0 < 32) → (k : ℕ) → k < 8 → get_or (set xs q v) k 0 < 32
-set-lt xs q v n l h old k kl = elim (cases_eq k q) [
-  | inl e ↦ omega (arith, ap (λ j. get_or (set xs q v) j 0) e, get_or-set_same xs q v 0 (omega arith))
-  | inr ne ↦ omega (arith, get_or-set_other xs q k v 0 ne, old k kl)
-]
+abbrev pub last_of : List ℕ → ℕ → ℕ
+last_of lasts q = cond (ltb q (length lasts)) (get_or lasts q 0) 0
 
-set_is : (xs : List ℕ) (q v : ℕ) (f : ℕ → ℕ) → q < length xs → v ≡ f q → ((k : ℕ) → k < q → get_or xs k 0 ≡ f k) → (k : ℕ) → k < q + 1 → get_or (set xs q v) k 0 ≡ f k
-set_is xs q v f l e old k kl = elim (cases_eq k q) [
-  | inl s ↦ ap (λ j. get_or (set xs q v) j 0) s ∙ get_or-set_same xs q v 0 l ∙ e ∙ ap f (sym s)
-  | inr ne ↦ get_or-set_other xs q k v 0 ne ∙ old k (omega arith)
-]
+first_is : (lasts : List ℕ) (q : ℕ) → q < length lasts → first_of lasts q ≡ begun lasts q
+first_is lasts zero l = refl
+first_is lasts (suc q) l = grind (arith, nat_tests)
 
-set_rest : (xs : List ℕ) (q v : ℕ) → ((k : ℕ) → q ≤ k → get_or xs k 0 ≡ 0) → (k : ℕ) → q + 1 ≤ k → get_or (set xs q v) k 0 ≡ 0
-set_rest xs q v old k l = get_or-set_other xs q k v 0 (λ e. omega arith) ∙ old k (omega arith)
+first_none : (lasts : List ℕ) (q : ℕ) → length lasts ≤ q → first_of lasts q ≡ 0
+first_none lasts q l = grind (arith, nat_tests)
 
-none : (n k : ℕ) → get_or {A = ℕ} (replicate n 0) k 0 ≡ 0
-none zero k = refl
-none (suc n) zero = refl
-none (suc n) (suc k) = none n k
+last_is : (lasts : List ℕ) (q : ℕ) → q < length lasts → last_of lasts q ≡ get_or lasts q 0
+last_is lasts q l = grind (arith, nat_tests)
 
-pub lining_none : (lasts : List ℕ) → Lining lasts 0 (replicate 8 0) (replicate 8 0) 0
-lining_none lasts = record {
-  first_long = length-replicate {A = ℕ} 8 0;
-  last_long = length-replicate {A = ℕ} 8 0;
-  begin = λ k l. omega (arith, none 8 k);
-  end = λ k l. omega (arith, none 8 k);
-  first_is = λ k l. absurd (omega arith);
-  last_is = λ k l. absurd (omega arith);
-  first_rest = λ k l. none 8 k;
-  last_rest = λ k l. none 8 k;
-  next_is = refl;
-}
-
-begun_more : (xs : List ℕ) (q : ℕ) → begun xs (q + 1) ≡ get_or xs q 0 + 1
-begun_more xs q = ap (begun xs) (add-one q)
+last_none : (lasts : List ℕ) (q : ℕ) → length lasts ≤ q → last_of lasts q ≡ 0
+last_none lasts q l = grind (arith, nat_tests)
 
 begun-low : (xs : List ℕ) (q : ℕ) → ((k : ℕ) → k < length xs → get_or xs k 0 < 32) → ((k : ℕ) → k + 1 < length xs → get_or xs k 0 < get_or xs (k + 1) 0) → q < length xs → begun xs q < 32
 begun-low xs zero low rising l = omega arith
 begun-low xs (suc q) low rising l = omega (arith, rising q (omega arith), low (q + 1) (omega arith))
 
-pub lining_more : (lasts : List ℕ) (q : ℕ) (first last : List ℕ) (next : ℕ) → length lasts ≤ 8 → ((k : ℕ) → k < length lasts → get_or lasts k 0 < 32)
-    → ((k : ℕ) → k + 1 < length lasts → get_or lasts k 0 < get_or lasts (k + 1) 0) → q < length lasts
-    → Lining lasts q first last next → Lining lasts (q + 1) (set first q next) (set last q (get_or lasts q 0)) (get_or lasts q 0 + 1)
-lining_more lasts q first last next few low rising l h = record {
-  first_long = length-set first q next ∙ h.first_long;
-  last_long = length-set last q (get_or lasts q 0) ∙ h.last_long;
-  begin = set-lt first q next h.first_long (omega arith) (omega (arith, h.next_is, begun-low lasts q low rising l)) h.begin;
-  end = set-lt last q (get_or lasts q 0) h.last_long (omega arith) (low q l) h.end;
-  first_is = set_is first q next (begun lasts) (omega (arith, h.first_long)) h.next_is h.first_is;
-  last_is = set_is last q (get_or lasts q 0) (λ k. get_or lasts k 0) (omega (arith, h.last_long)) refl h.last_is;
-  first_rest = set_rest first q next h.first_rest;
-  last_rest = set_rest last q (get_or lasts q 0) h.last_rest;
-  next_is = sym (begun_more lasts q);
-}
+-- of a function that is v below n and 0 from there on, and so is the array of its values at eight places
+module _ (f v : ℕ → ℕ) (n : ℕ) (few : n ≤ 8) (is : (k : ℕ) → k < n → f k ≡ v k) (none : (k : ℕ) → n ≤ k → f k ≡ 0) where
+  pub line_at : (k : ℕ) → k < n → get_or (tab f 8) k 0 ≡ v k
+  line_at k l = get_or-tab f 8 k 0 (omega arith) ∙ is k l
+
+  pub line_rest : (k : ℕ) → n ≤ k → get_or (tab f 8) k 0 ≡ 0
+  line_rest k l = elim (cases_lt k 8) [
+    | inl h ↦ get_or-tab f 8 k 0 h ∙ none k l
+    | inr h ↦ get_or_past (tab f 8) k 0 (omega (arith, length_tab f 8))
+  ]
+
+  pub line_lt : ((k : ℕ) → k < n → v k < 32) → (k : ℕ) → get_or (tab f 8) k 0 < 32
+  line_lt low k = elim (cases_lt k n) [
+    | inl h ↦ omega (arith, line_at k h, low k h)
+    | inr h ↦ omega (arith, line_rest k h)
+  ]
+
+-- where each query begins and ends, in eight places
+pub record Lining (lasts begins ends : List ℕ) : Type 0 where
+  pub begin : (k : ℕ) → get_or begins k 0 < 32
+  pub end : (k : ℕ) → get_or ends k 0 < 32
+  pub first : (k : ℕ) → k < length lasts → get_or begins k 0 ≡ begun lasts k
+  pub last : (k : ℕ) → k < length lasts → get_or ends k 0 ≡ get_or lasts k 0
+  pub rest : (k : ℕ) → length lasts ≤ k → (get_or begins k 0 ≡ 0) × (get_or ends k 0 ≡ 0)
+
+pub lining : (lasts begins ends : List ℕ) → length lasts ≤ 8 → ((k : ℕ) → k < length lasts → get_or lasts k 0 < 32)
+    → ((k : ℕ) → k + 1 < length lasts → get_or lasts k 0 < get_or lasts (k + 1) 0) → begins ≡ tab (first_of lasts) 8 → ends ≡ tab (last_of lasts) 8 → Lining lasts begins ends
+lining xs begins ends few low rising b e =
+    let n = length xs in
+    subst (λ l. Lining xs l ends) (sym b) (subst (Lining xs (tab (first_of xs) 8)) (sym e) (record {
+      begin = line_lt (first_of xs) (begun xs) n few (first_is xs) (first_none xs) (λ k. begun-low xs k low rising);
+      end = line_lt (last_of xs) (λ k. get_or xs k 0) n few (last_is xs) (last_none xs) low;
+      first = line_at (first_of xs) (begun xs) n few (first_is xs) (first_none xs);
+      last = line_at (last_of xs) (λ k. get_or xs k 0) n few (last_is xs) (last_none xs);
+      rest = λ k l. (line_rest (first_of xs) (begun xs) n few (first_is xs) (first_none xs) k l, line_rest (last_of xs) (λ k. get_or xs k 0) n few (last_is xs) (last_none xs) k l);
+    }))
 
 pub ends_low : (o k : ℕ) (qs : List Query) → k < length qs → get_or (ends o qs) k 0 < o + size qs
 ends_low o k [] l = absurd (omega arith)

@@ -1,10 +1,10 @@
 -- Moving masks of positions decides the path rule.
-use Rattle.std.proofs.Common.{◌≡◌, ℕ, zero, suc, ◌+◌, ◌-◌, ◌^◌, ◌<◌, ◌≤◌, Bool, true, false, ◌&&◌, eqb, List, [], ◌∷◌, ◌++◌, map, length, get_or, drop, replicate, sym, refl, ap, ◌∙◌, subst, ap₂, append_assoc, append-nil, zero-add, arith, length-append, pow_mono}
+use Rattle.std.proofs.Common.{◌≡◌, ℕ, zero, suc, ◌+◌, ◌-◌, ◌^◌, ◌<◌, ◌≤◌, Bool, true, false, ◌&&◌, eqb, List, [], ◌∷◌, ◌++◌, map, length, get_or, replicate, sym, refl, ap, ◌∙◌, subst, ap₂, append_assoc, append-nil, zero-add, arith, length-append, pow_mono}
 use mathlib.Core.List.{map-append}
 use lib.ListN.{length-map, length-replicate}
 use Rattle.std.specs.List.{AllByRecursion}
 use Rattle.std.proofs.lemmas.Nat.{pow_pos}
-use Rattle.std.proofs.lemmas.List.{replicate-append-replicate, drop_more}
+use Rattle.std.proofs.lemmas.List.{replicate-append-replicate}
 use Rattle.std.proofs.lemmas.Bool.Decides.{nat_tests}
 use Rattle.machine.specs.declared.position.Position.{Position}
 use Rattle.machine.specs.declared.position.Position.TheVariants.{End}
@@ -209,15 +209,6 @@ start-query names (s ∷ q) b ps =
 pub starts_are : (names : List (List ℕ)) (qs : List Query) → start_bits true (positions names qs) ≡ begins qs
 starts_are names [] = refl
 starts_are names (q ∷ qs) = start-query names q true (positions names qs) ∙ ap (λ x. (true ∷ replicate (length q) false) ++ x) (starts_are names qs)
-
--- one bit on
-pub starts_more : (b : Bool) (ps : List Position) (xs : List Bool) (j : ℕ) → j < length ps → length xs ≡ length ps → start_bits b (drop j ps) ≡ drop j xs
-    → (b ≡ get_or xs j false) × (start_bits (is_end (get_or ps j End)) (drop (j + 1) ps) ≡ drop (j + 1) xs)
-starts_more b ps xs j l n e =
-    let p = drop_more ps j End l in
-    let x = drop_more xs j false (omega arith) in
-    let both : b ∷ start_bits (is_end (get_or ps j End)) (drop (j + 1) ps) ≡ get_or xs j false ∷ drop (j + 1) xs = ap (start_bits b) (sym p) ∙ e ∙ x in
-    (cc, cc)
 
 pub length-starts : (b : Bool) (ps : List Position) → length (start_bits b ps) ≡ length ps
 length-starts b [] = refl

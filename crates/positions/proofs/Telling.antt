@@ -8,7 +8,7 @@ use Rattle.machine.specs.Queries.{Query, asked, ends}
 use Rattle.machine.specs.Masks.{has}
 use Rattle.machine.proofs.Stands.{meets_decides}
 use Rattle.positions.specs.declared.lines.Lines.{Lines}
-use Rattle.positions.specs.Tabs.{length_tab, get_or-tab, is_tab}
+use Rattle.positions.specs.Tabs.{length_tab, get_or-tab, tab_is, tab_same}
 use Rattle.positions.specs.Sets.{marked}
 use Rattle.positions.specs.Verdicts.{MeetsQuery, ByRule, LinesOf}
 
@@ -41,8 +41,12 @@ module _ (qs : List Query) (l : Lines) (lines : LinesOf qs l) (setOf : List (Lis
     ];
   }
 
+-- the queries marked by the same sets
+pub marked-same : (l : Lines) (f g : ℕ → ℕ) → ((q : ℕ) → q < 8 → f q ≡ g q) → marked l f ≡ marked l g
+marked-same l f g same = tab_same _ _ 8 false (λ q h. ap (λ s. ltb q l.count && has s (get_or l.last q 0)) (same q h))
+
 -- without queries none is marked
 pub marked-none : (l : Lines) (setOf : ℕ → ℕ) → l.count ≡ 0 → marked l setOf ≡ replicate 8 false
 marked-none l setOf e =
-    sym (is_tab _ (replicate 8 false) 8 false (length-replicate 8 false)
-    (λ k h. get_or-replicate 8 k false false h ∙ sym (ap (λ t. t && has (setOf k) (get_or l.last k 0)) (le-ltb k l.count (omega arith)))))
+    tab_is _ (replicate 8 false) 8 false (length-replicate 8 false)
+    (λ k h. ap (λ t. t && has (setOf k) (get_or l.last k 0)) (le-ltb k l.count (omega arith)) ∙ sym (get_or-replicate 8 k false false h))

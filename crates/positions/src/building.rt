@@ -9,6 +9,7 @@ use crate::lines::Lines;
 use crate::masks::fit_masks;
 use crate::moves::Moves;
 use machine::Queries;
+use std::array;
 
 impl Lines {
     /// Of no queries.
@@ -32,14 +33,14 @@ impl Lines {
         ensures first { (k : ℕ) → k < length lasts.now → slice_index result.first k ≡ begun lasts.now k }
         ensures rest { (k : ℕ) → length lasts.now ≤ k → (slice_index result.first k ≡ 0) × (slice_index result.last k ≡ 0) }
     {
-        let mut first = [0; 8];
-        let mut last = [0; 8];
-        let mut next = 0;
-        for q in 0..lasts.len() {
-            first[q] = next as u8;
-            last[q] = lasts[q] as u8;
-            next = lasts[q] + 1;
-        }
+        let first = array::from_fn(|q| {
+            if 0 < q && q < lasts.len() {
+                lasts[q - 1] as u8 + 1
+            } else {
+                0
+            }
+        });
+        let last = array::from_fn(|q| if q < lasts.len() { lasts[q] as u8 } else { 0 });
         Lines {
             first,
             last,

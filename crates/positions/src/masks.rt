@@ -1,12 +1,12 @@
 //! The masks of positions.
-ghost use Rattle.std.specs.Prelude.{◌≡◌, ◌<◌, ◌≤◌, true, length};
+ghost use Rattle.std.specs.Prelude.{◌≡◌, ◌-◌, ◌<◌, ◌≤◌, ◌||◌, ◌==◌, true, length, slice_index_or};
 ghost use Rattle.machine.specs.Queries.{fits_at, deep_at};
 ghost use Rattle.machine.specs.Masks.{mask, fit_mask, deep_mask};
 ghost use Rattle.machine.specs.Views.{is_end};
 ghost use Rattle.positions.specs.Sets.{rest_mask, fit_masks, start_bits};
 
-use crate::moves::Moves;
 use machine::Position;
+use std::array;
 
 fn fits(p: Position, column: u8) -> bool
     ensures { result ≡ fits_at p column }
@@ -23,15 +23,25 @@ fn deep(p: Position) -> bool
 {
     match p {
         Position::End => false,
-        Position::Any(deep) => deep,
-        Position::Name(deep, _) => deep,
+        Position::Any(deep) | Position::Name(deep, _) => deep,
     }
 }
 
-fn is_end(p: Position) -> bool
-    ensures { result ≡ is_end p }
+/// Whether the position j is a query's first: that of the first query, or one after an end.
+fn begins(positions: &[Position], j: usize) -> bool
+    requires { j < length positions.now }
+    ensures { result ≡ ((j == 0) || is_end (slice_index_or positions.now (j - 1) Position.End)) }
 {
-    matches!(p, Position::End)
+    j == 0 || matches!(positions[j - 1], Position::End)
+}
+
+/// The set of the places where a bit is true.
+fn mask_of(bits: [bool; 32]) -> u32
+    ensures { result ≡ mask bits }
+{
+    bits.iter()
+        .rev()
+        .fold(0, |mask, bit| mask << 1 | u32::from(*bit))
 }
 
 /// The positions whose step fits the column.
@@ -39,13 +49,7 @@ pub fn fit_mask(positions: &[Position], column: u8) -> u32
     requires { length positions.now ≤ 32 }
     ensures { result ≡ fit_mask positions.now column }
 {
-    let mut fitting: u32 = 0;
-    for j in 0..positions.len() {
-        if fits(positions[j], column) {
-            fitting |= 1 << j;
-        }
-    }
-    fitting
+    mask_of(array::from_fn(|j| j < positions.len() && fits(positions[j], column)))
 }
 
 /// The positions whose step is `//`.
@@ -53,13 +57,7 @@ pub fn deep_mask(positions: &[Position]) -> u32
     requires { length positions.now ≤ 32 }
     ensures { result ≡ deep_mask positions.now }
 {
-    let mut staying: u32 = 0;
-    for j in 0..positions.len() {
-        if deep(positions[j]) {
-            staying |= 1 << j;
-        }
-    }
-    staying
+    mask_of(array::from_fn(|j| j < positions.len() && deep(positions[j])))
 }
 
 /// These, and the unused ones of 32 positions.
@@ -67,11 +65,7 @@ pub fn rest_mask(positions: &[Position]) -> u32
     requires { length positions.now ≤ 32 }
     ensures { result ≡ rest_mask 32 positions.now }
 {
-    let mut resting = deep_mask(positions);
-    for j in positions.len()..32 {
-        resting |= 1 << j;
-    }
-    resting
+    mask_of(array::from_fn(|j| j >= positions.len() || deep(positions[j])))
 }
 
 /// The mask of each column.
@@ -79,11 +73,7 @@ pub fn fit_masks(positions: &[Position]) -> [u32; 16]
     requires { length positions.now ≤ 32 }
     ensures { result ≡ fit_masks positions.now }
 {
-    let mut fits = [0; 16];
-    for c in 0..16 {
-        fits[c] = fit_mask(positions, c as u8);
-    }
-    fits
+    array::from_fn(|c| fit_mask(positions, c as u8))
 }
 
 /// The positions 0 of the queries: the first one, and each that follows an end.
@@ -91,13 +81,5 @@ pub fn start_mask(positions: &[Position]) -> u32
     requires { length positions.now ≤ 32 }
     ensures { result ≡ mask (start_bits true positions.now) }
 {
-    let mut starts: u32 = 0;
-    let mut first = true;
-    for j in 0..positions.len() {
-        if first {
-            starts |= 1 << j;
-        }
-        first = is_end(positions[j]);
-    }
-    starts
+    mask_of(array::from_fn(|j| j < positions.len() && begins(positions, j)))
 }

@@ -1,3 +1,3 @@
 pub mod Relations
 pub mod Making
-pub mod RelationMachineMachineLemmas
+pub mod Laws

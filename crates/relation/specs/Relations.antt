@@ -1,15 +1,11 @@
 -- What the machine of relations means.
-use Rattle.std.specs.Prelude.{◌≡◌, ℕ, ◌^◌, ◌<◌, Bool, List, map, length, slice_index}
+use Rattle.std.specs.Prelude.{◌≡◌, ℕ, ◌^◌, ◌<◌, Bool, List, map, slice_index}
 use Rattle.std.proofs.Common.{sym, subst}
-use mathlib.Core.HLevel.{is_prop→PathP}
-use std.HLevel.{Π_prop}
-use Rattle.std.proofs.Math.Bridge.{le_prop}
-use base.Stored.{Coded-set, coded_ℕ}
 use Rattle.std.proofs.lemmas.Nat.{pow_below}
 use Rattle.machine.specs.Model.{Model}
 use Rattle.machine.specs.Queries.{column}
 use Rattle.machine.specs.Views.{names_of}
-use Rattle.positions.specs.Tabs.{tab, length_tab, get_or-tab}
+use Rattle.positions.specs.Tabs.{tab, length_tab, get_or-tab, length-along, bound-along}
 use Rattle.positions.specs.Sets.{picked, moved_on, run_by, marked}
 use Rattle.positions.proofs.Columns.{column-few}
 use Rattle.positions.proofs.Pickings.{picked-lt}
@@ -69,8 +65,4 @@ related m = record {
 }
 
 pub same-action : (a b : RelationAction) → a.rows ≡ b.rows → a ≡ b
-same-action a b e = λ i. record {
-  rows = e i;
-  size = is_prop→PathP (λ k. length (e k) ≡ 32) (λ k. Coded-set coded_ℕ _ _) a.size b.size i;
-  low = is_prop→PathP (λ k. (j : ℕ) → j < 32 → slice_index (e k) j < 2 ^ 32) (λ k. Π_prop (λ j. Π_prop (λ h. le_prop))) a.low b.low i;
-}
+same-action a b e = λ i. record { rows = e i; size = length-along 32 e a.size b.size i; low = bound-along 32 (2 ^ 32) e a.low b.low i }

@@ -1,7 +1,7 @@
 ghost use Rattle.std.specs.Prelude.{◌≡◌, ◌<◌};
 ghost use Rattle.positions.specs.Sets.{picked};
 
-/// The union of the rows that the bits of `row` name. It takes one turn for each bit that is set.
+/// The union of the rows that the bits of `row` name. It takes one turn for each bit that is set, and none for the others.
 pub fn pick(row: u32, rows: &[u32; 32]) -> u32
     ensures { result ≡ picked row rows.now }
 {

@@ -1,8 +1,9 @@
 -- The place of a set among others.
-use Rattle.std.proofs.Common.{◌≡◌, ℕ, ◌+◌, ◌<◌, ◌≤◌, List, [], ◌∷◌, ◌++◌, length, get_or, take, drop, set, sym, ap, ◌∙◌, inl, inr, append-nil, arith}
-use Rattle.std.proofs.lemmas.Bool.{cases_lt}
+use Rattle.std.proofs.Common.{◌≡◌, ℕ, ◌+◌, ◌<◌, ◌≤◌, List, [], ◌∷◌, ◌++◌, length, get_or, take, set, MatchOption, Option, Some, None, Bool, true, false, not, cond, eqb, ltb, suc, refl, subst, sym, ap, ◌∙◌, inl, inr, append-nil, arith}
+use Rattle.std.proofs.lemmas.Bool.{cases_lt, lt-ltb, le-ltb, cond-true, cond-false}
+use Rattle.std.specs.List.{position, position_or_len}
 use Rattle.std.proofs.lemmas.Bool.Decides.{nat_tests}
-use Rattle.std.proofs.lemmas.List.{drop_more, take_more_set, length-take-le, length_push}
+use Rattle.std.proofs.lemmas.List.{take_more_set, length-take-le, length_push}
 use Rattle.table.specs.Closure.{place, added}
 
 pub place-le : (x : ℕ) (xs : List ℕ) → place x xs ≤ length xs
@@ -22,12 +23,24 @@ pub place_push : (x : ℕ) (xs : List ℕ) → length xs ≤ place x xs → plac
 place_push x [] h = grind (arith, nat_tests)
 place_push x (y ∷ xs) h = grind (arith, nat_tests, place_push x xs)
 
--- one place on
-pub place-more : (x : ℕ) (xs : List ℕ) (i : ℕ) → i < length xs → (get_or xs i 0 ≡ x → ⊥) → i + place x (drop i xs) ≡ (i + 1) + place x (drop (i + 1) xs)
-place-more x xs i l ne = let e = drop_more xs i 0 l in ap (λ ys. i + place x ys) e ∙ grind (arith, nat_tests)
+place-first : (x : ℕ) (xs : List ℕ) → place x xs ≡ position_or_len (eqb x) xs
+place-first x [] = refl
+place-first x (y ∷ ys) = next (eqb x y) (position_or_len (eqb x) ys) (place-first x ys)
+  where
+    next : (b : Bool) (n : ℕ) → place x ys ≡ n → cond b 0 (suc (place x ys)) ≡ cond (not b) (1 + n) 0
+    next true n e = refl
+    next false n e = omega arith
 
-pub place_here : (x : ℕ) (xs : List ℕ) (i : ℕ) → i < length xs → get_or xs i 0 ≡ x → i + place x (drop i xs) ≡ i
-place_here x xs i l e = ap (λ ys. i + place x ys) (drop_more xs i 0 l) ∙ grind (arith, nat_tests)
+-- the place as a search finds it
+pub place-position : (x : ℕ) (xs : List ℕ) → MatchOption (position (eqb x) xs) (place x xs ≡ length xs) (λ at. (at ≡ place x xs) × (at < length xs))
+place-position x xs =
+    let n = position_or_len (eqb x) xs in
+    let e = place-first x xs in
+    let P : Option ℕ → Type 0 = λ r. MatchOption r (place x xs ≡ length xs) (λ at. (at ≡ place x xs) × (at < length xs)) in
+    elim (cases_lt n (length xs)) [
+      | inl h ↦ subst P (sym (cond-true (ltb n (length xs)) (Some n) None (lt-ltb n (length xs) h))) (sym e, h)
+      | inr h ↦ subst P (sym (cond-false (ltb n (length xs)) (Some n) None (le-ltb n (length xs) h))) (omega (arith, place-le x xs))
+    ]
 
 pub added-old : (xs : List ℕ) (x : ℕ) → place x xs < length xs → added xs x ≡ xs
 added-old xs x h = grind (arith, nat_tests)

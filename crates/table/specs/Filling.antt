@@ -5,6 +5,7 @@ use Rattle.machine.specs.Queries.{Query, positions, begins}
 use Rattle.machine.specs.Masks.{mask, deep_mask}
 use Rattle.positions.specs.declared.moves.Moves.{Moves}
 use Rattle.positions.specs.Sets.{moved_on, fit_masks}
+use Rattle.table.specs.declared.filling.Filling.{Filling}
 use Rattle.table.specs.declared.found.Found.{Found}
 use Rattle.table.specs.declared.states.States.{States}
 use Rattle.table.specs.Closure.{place, closure}
@@ -22,6 +23,11 @@ pub record Filled (next : ℕ → ℕ → ℕ) (columns upto : ℕ) (sets table 
   pub done : (a b : ℕ) → b < columns → a * 16 + b < upto → slice_index table (a * 16 + b) ≡ place (next (slice_index sets a) b) sets
   pub found : (a b : ℕ) → b < columns → a * 16 + b < upto → place (next (slice_index sets a) b) sets < length sets
   pub rest : (a b : ℕ) → a < 32 → b < 16 → (b < columns → upto ≤ a * 16 + b) → slice_index table (a * 16 + b) ≡ a
+
+-- the same moves on the same columns
+pub record KeepsMoves (old new : Filling) : Type 0 where
+  pub moves : new.moves ≡ old.moves
+  pub columns : new.columns ≡ old.columns
 
 -- where the positions of queries lead on a column
 abbrev pub leads : List Position → ℕ → ℕ → ℕ

@@ -3,4 +3,4 @@ pub mod Arising
 pub mod Filling
 pub mod Tables
 pub mod Making
-pub mod TableMachineMachineLemmas
+pub mod Laws

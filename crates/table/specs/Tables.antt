@@ -1,14 +1,10 @@
 -- What the table machine means.
-use Rattle.std.specs.Prelude.{◌≡◌, ℕ, ◌+◌, ◌*◌, ◌%◌, ◌<◌, Bool, List, [], ◌∷◌, map, length, slice_index}
+use Rattle.std.specs.Prelude.{◌≡◌, ℕ, ◌+◌, ◌*◌, ◌%◌, ◌<◌, Bool, List, [], ◌∷◌, map, slice_index}
 use Rattle.std.proofs.Common.{sym, subst, arith}
-use mathlib.Core.HLevel.{is_prop→PathP}
-use std.HLevel.{Π_prop}
-use Rattle.std.proofs.Math.Bridge.{le_prop}
-use base.Stored.{Coded-set, coded_ℕ}
 use Rattle.machine.specs.Model.{Model}
 use Rattle.machine.specs.Queries.{column}
 use Rattle.machine.specs.Views.{names_of}
-use Rattle.positions.specs.Tabs.{tab, length_tab, get_or-tab}
+use Rattle.positions.specs.Tabs.{tab, length_tab, get_or-tab, length-along, bound-along}
 use Rattle.positions.specs.Sets.{marked}
 use Rattle.positions.proofs.Columns.{column-few}
 use Rattle.table.specs.declared.action.TableAction.{TableAction}
@@ -79,8 +75,4 @@ tabled m = record {
 }
 
 pub same-action : (a b : TableAction) → a.to ≡ b.to → a ≡ b
-same-action a b e = λ i. record {
-  to = e i;
-  size = is_prop→PathP (λ k. length (e k) ≡ 32) (λ k. Coded-set coded_ℕ _ _) a.size b.size i;
-  ok = is_prop→PathP (λ k. (j : ℕ) → j < 32 → slice_index (e k) j < 32) (λ k. Π_prop (λ j. Π_prop (λ h. le_prop))) a.ok b.ok i;
-}
+same-action a b e = λ i. record { to = e i; size = length-along 32 e a.size b.size i; ok = bound-along 32 32 e a.ok b.ok i }

@@ -3,15 +3,17 @@ ghost use Rattle.std.specs.Prelude.{◌≡◌, ℕ, ◌+◌, ◌*◌, ◌/◌, �
 ghost use Rattle.table.specs.Closure.{closure};
 ghost use Rattle.table.specs.Filling.{by_moves, Made};
 
-use crate::fill::try_states;
+use crate::filling::Filling;
 use crate::found::Found;
 use crate::states::States;
 use positions::Moves;
+use std::array;
 
 /// A table whose every entry leads a state to itself.
 fn themselves() -> [u8; 512]
     ensures { (length result ≡ 512) × ((k : ℕ) → k < 512 → slice_index result k ≡ k / 16) }
 {
+    // The table is one flat array of zeros, which is filled in place.
     let mut next = [0; 512];
     for k in 0..512 {
         next[k] = (k / 16) as u8;
@@ -23,11 +25,7 @@ fn themselves() -> [u8; 512]
 fn columns_of(next: &[u8; 512]) -> [u8; 512]
     ensures { (length result ≡ 512) × ((k : ℕ) → k < 512 → slice_index result k ≡ slice_index next.now (k % 32 * 16 + k / 32)) }
 {
-    let mut columns = [0; 512];
-    for k in 0..512 {
-        columns[k] = next[k % 32 * 16 + k / 32];
-    }
-    columns
+    array::from_fn(|k| next[k % 32 * 16 + k / 32])
 }
 
 impl States {
@@ -54,17 +52,19 @@ pub fn explore(moves: &Moves, start: u32, columns: usize) -> Option<States>
     requires { columns ≤ 16 }
     ensures { MatchOption result (32 < length (closure (by_moves moves.now) columns 32 0 (start ∷ []))) (λ s. Made (by_moves moves.now) columns start s) }
 {
-    let mut next = themselves();
     let mut sets = [0; 32];
     sets[0] = start;
-    let mut found = Found { sets, count: 1 };
-    if !try_states(moves, columns, &mut found, &mut next) {
-        return None;
-    }
-    let columns = columns_of(&next);
+    let mut filling = Filling {
+        moves: *moves,
+        columns,
+        found: Found { sets, count: 1 },
+        next: themselves(),
+    };
+    filling.try_states()?;
+    let columns = columns_of(&filling.next);
     Some(States {
-        found,
-        next,
+        found: filling.found,
+        next: filling.next,
         columns,
     })
 }

@@ -1,47 +1,38 @@
 //! The table is filled, state by state.
-ghost use Rattle.std.specs.Prelude.{◌≡◌, ◌+◌, ◌*◌, ◌<◌, ◌≤◌, length, set, MatchBool, slice_index};
+ghost use Rattle.std.specs.Prelude.{◌≡◌, ℕ, ◌+◌, ◌*◌, ◌/◌, ◌<◌, ◌≤◌, [], ◌∷◌, length, set, MatchOption, slice_index};
 ghost use Rattle.table.specs.Closure.{tried, closure};
-ghost use Rattle.table.specs.Filling.{seen, by_moves, Filled};
+ghost use Rattle.table.specs.Filling.{seen, by_moves, Filled, KeepsMoves};
 
-use crate::found::Found;
-use positions::Moves;
+use crate::filling::Filling;
 
-/// Tries each column in state i; false if a 33rd set arises.
-pub fn try_state(
-    moves: &Moves,
-    columns: usize,
-    found: &mut Found,
-    next: &mut [u8],
-    i: usize,
-) -> bool
-    requires columns { columns ≤ 16 }
-    requires state { i < found.old.count }
-    requires filled { Filled (by_moves moves.now) columns (i * 16) (seen found.old) next.old }
-    ensures { MatchBool result ((seen found.new ≡ tried (by_moves moves.now) (slice_index (seen found.old) i) 0 columns (seen found.old)) × Filled (by_moves moves.now) columns ((i + 1) * 16) (seen found.new) next.new) (32 < length (tried (by_moves moves.now) (slice_index (seen found.old) i) 0 columns (seen found.old))) }
-{
-    let set = found.sets[i];
-    for c in 0..columns {
-        let to = moves.on(set, c);
-        match found.number(to) {
-            None => return false,
-            Some(at) => next[i * 16 + c] = at as u8,
+impl Filling {
+    /// Tries each column in state i; nothing if a 33rd set arises.
+    fn try_state(&mut self, i: usize) -> Option<()>
+        requires state { i < self.old.found.count }
+        requires filled { Filled (by_moves self.old.moves) self.old.columns (i * 16) (seen self.old.found) self.old.next }
+        ensures keeps { KeepsMoves self.old self.new }
+        ensures tried { MatchOption result (32 < length (tried (by_moves self.old.moves) (slice_index (seen self.old.found) i) 0 self.old.columns (seen self.old.found))) (λ _. (seen self.new.found ≡ tried (by_moves self.old.moves) (slice_index (seen self.old.found) i) 0 self.old.columns (seen self.old.found)) × Filled (by_moves self.old.moves) self.old.columns ((i + 1) * 16) (seen self.new.found) self.new.next) }
+    {
+        let set = self.found.sets[i];
+        for c in 0..self.columns {
+            let to = self.moves.on(set, c);
+            let at = self.found.number(to)?;
+            self.next[i * 16 + c] = at as u8;
         }
+        Some(())
     }
-    true
-}
 
-/// Tries each state, also those that arise on the way; false if a 33rd set arises.
-pub fn try_states(moves: &Moves, columns: usize, found: &mut Found, next: &mut [u8]) -> bool
-    requires columns { columns ≤ 16 }
-    requires filled { Filled (by_moves moves.now) columns 0 (seen found.old) next.old }
-    ensures { MatchBool result ((seen found.new ≡ closure (by_moves moves.now) columns 32 0 (seen found.old)) × Filled (by_moves moves.now) columns (length (seen found.new) * 16) (seen found.new) next.new) (32 < length (closure (by_moves moves.now) columns 32 0 (seen found.old))) }
-{
-    let mut i = 0;
-    while i < found.count {
-        if !try_state(moves, columns, found, next, i) {
-            return false;
+    /// Tries each state, also those that arise on the way; nothing if a 33rd set arises.
+    pub fn try_states(&mut self) -> Option<()>
+        requires { Filled (by_moves self.old.moves) self.old.columns 0 (seen self.old.found) self.old.next }
+        ensures { MatchOption result (32 < length (closure (by_moves self.old.moves) self.old.columns 32 0 (seen self.old.found))) (λ _. (seen self.new.found ≡ closure (by_moves self.old.moves) self.old.columns 32 0 (seen self.old.found)) × Filled (by_moves self.old.moves) self.old.columns (length (seen self.new.found) * 16) (seen self.new.found) self.new.next) }
+    {
+        // The number of states grows while they are tried.
+        let mut i = 0;
+        while i < self.found.count {
+            self.try_state(i)?;
+            i += 1;
         }
-        i += 1;
+        Some(())
     }
-    true
 }

@@ -5,6 +5,7 @@
 mod action;
 mod explore;
 mod fill;
+mod filling;
 mod found;
 mod laws;
 mod make;

@@ -8,25 +8,27 @@ use crate::found::Found;
 /// How many states there may be.
 const MOST_STATES: usize = 32;
 
-/// Where the set stands first, or how many there are.
-pub fn place_of(sets: &[u32], set: u32) -> usize
-    ensures { result ≡ place set sets.now }
+/// Where the set stands first.
+pub fn place_of(sets: &[u32], set: u32) -> Option<usize>
+    ensures { MatchOption result (place set sets.now ≡ length sets.now) (λ at. (at ≡ place set sets.now) × (at < length sets.now)) }
 {
-    for i in 0..sets.len() {
-        if sets[i] == set {
-            return i;
-        }
-    }
-    sets.len()
+    sets.iter().position(|s| set == *s)
 }
 
 impl Found {
+    /// The sets that were found.
+    #[tactic(auto, unfolding(crate::specs::Filling::seen))]
+    pub fn seen(&self) -> &[u32]
+        ensures { result.now ≡ seen self.now }
+    {
+        &self.sets[0..self.count]
+    }
+
     /// The number of the set, which is added unless it is there; nothing for a 33rd.
     pub fn number(&mut self, set: u32) -> Option<usize>
         ensures { MatchOption result ((32 < length (added (seen self.old) set)) × (seen self.new ≡ seen self.old)) (λ at. (at ≡ place set (seen self.old)) × (seen self.new ≡ added (seen self.old) set)) }
     {
-        let at = place_of(&self.sets[0..self.count], set);
-        if at < self.count {
+        if let Some(at) = place_of(self.seen(), set) {
             return Some(at);
         }
         if self.count == MOST_STATES {
@@ -35,6 +37,6 @@ impl Found {
         let count = self.count;
         self.sets[count] = set;
         self.count = count + 1;
-        Some(at)
+        Some(count)
     }
 }

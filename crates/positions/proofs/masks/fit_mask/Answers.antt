@@ -1,27 +1,16 @@
-use Rattle.std.proofs.Common.{◌*◌, ◌%◌, ◌^◌, sym, refl, ap, ◌∙◌, arith}
-use lib.Bits.{bit_or}
-use Rattle.std.proofs.lemmas.List.{take_all}
+use Rattle.std.proofs.Common.{◌∙◌, ◌&&◌, ltb, length, get_or, false, ap, rules}
 use Rattle.machine.specs.declared.position.Position.{Position}
 use Rattle.machine.specs.declared.position.Position.TheVariants.{End}
 use Rattle.machine.specs.Queries.{fits_at}
-use Rattle.machine.specs.Masks.{mask, fit_mask}
-use Rattle.positions.proofs.Digits.{mask-more, mask-skip}
+use Rattle.machine.specs.Masks.{mask}
+use Rattle.positions.specs.Tabs.{from_fn-tab}
+use Rattle.positions.proofs.Bits.{mask-tested}
 use Rattle.positions.proofs.masks.fit_mask.Goals as goal
-use Rattle.positions.proofs.masks.fit_mask.Goals.{then-fits, else-fits}
-
-pub loop-j-init : goal.loop-j-init
-unfolding mask
-loop-j-init c = refl
-
-pub loop-j-preserved : goal.loop-j-preserved
-loop-j-preserved c =
-    let ps = c.args.positions.now in
-    let f = λ (p : Position). fits_at p c.args.column in
-    let j = c.loop-j.j in
-    elim c.if-fits.branch [
-      | then-fits w ↦ w.fitting-is ∙ ap (λ m. bit_or m ((1 * 2 ^ j) % 2 ^ 32)) c.loop-j.invariant ∙ mask-more 32 f ps End j (omega arith) (omega arith) (sym w.if-fits.ensures)
-      | else-fits w ↦ w.fitting-is ∙ c.loop-j.invariant ∙ mask-skip f ps End j (omega arith) (sym w.if-fits.ensures)
-    ]
 
 pub returns : goal.returns
-returns c = c.loop-j.invariant ∙ ap (λ ps. fit_mask ps c.args.column) (take_all c.loop-j.j c.args.positions.now (omega arith))
+returns c =
+    let ps = c.args.positions.now in
+    let fits = λ (p : Position). fits_at p c.args.column in
+    let test = λ (j : _). ltb j (length ps) && fits (get_or ps j End) in
+    c.mask_of.ensures ∙ ap mask (from_fn-tab _ _ test 32 (λ i x q l k. search rules) c.from_fn.result false c.from_fn.ensures.items)
+    ∙ mask-tested fits ps End 32 c.requires

@@ -1,20 +1,16 @@
-use Rattle.std.proofs.Common.{◌≡◌, ◌+◌, ◌-◌, ◌*◌, ◌%◌, ◌^◌, true, [], ◌∷◌, ◌++◌, map, length, replicate, ap, ◌∙◌, append_assoc, arith, length-append}
-use lib.Bits.{bit_or}
+use Rattle.std.proofs.Common.{◌∙◌, ◌-◌, ◌++◌, true, replicate, length-append, ◌||◌, leb, map, length, get_or, false, ap, arith, rules}
 use lib.ListN.{length-map, length-replicate}
-use Rattle.std.proofs.lemmas.List.{replicate_more}
+use Rattle.machine.specs.declared.position.Position.TheVariants.{End}
 use Rattle.machine.specs.Queries.{deep_at}
 use Rattle.machine.specs.Masks.{mask}
-use Rattle.positions.proofs.Digits.{mask-set}
+use Rattle.positions.specs.Tabs.{from_fn-tab}
+use Rattle.positions.proofs.Bits.{mask-tab, rest_tested}
 use Rattle.positions.proofs.masks.rest_mask.Goals as goal
 
-pub loop-j-preserved : goal.loop-j-preserved
-loop-j-preserved c =
+pub returns : goal.returns
+returns c =
     let ps = c.args.positions.now in
-    let n = length ps in
-    let j = c.loop-j.j in
-    let bs = map deep_at ps in
-    let rest = replicate (j - n) true in
-    let long : length (bs ++ rest) ≡ j = omega (arith, length-append bs rest, length-map ps deep_at, length-replicate (j - n) true) in
-    ap (λ m. bit_or m ((1 * 2 ^ j) % 2 ^ 32)) c.loop-j.invariant
-    ∙ mask-set 32 (bs ++ rest) j long (omega arith)
-    ∙ ap mask (append_assoc bs rest (true ∷ []) ∙ ap (λ x. bs ++ x) (replicate_more (j - n) true ∙ ap (λ k. replicate k true) (let z : j - n + 1 ≡ j + 1 - n = omega arith in z)))
+    let rest = replicate (32 - length ps) true in
+    let test = λ (j : _). leb (length ps) j || deep_at (get_or ps j End) in
+    c.mask_of.ensures ∙ ap mask (from_fn-tab _ _ test 32 (λ i x q l k. search rules) c.from_fn.result false c.from_fn.ensures.items)
+    ∙ mask-tab test 32 (map deep_at ps ++ rest) (omega (arith, length-append (map deep_at ps) rest, length-map ps deep_at, length-replicate (32 - length ps) true)) (λ k h. rest_tested deep_at ps End (32 - length ps) k (omega arith))

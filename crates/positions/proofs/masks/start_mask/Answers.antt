@@ -1,34 +1,16 @@
-use Rattle.std.proofs.Common.{◌+◌, ◌*◌, ◌%◌, ◌^◌, true, cond, take, drop, sym, refl, ap, ◌∙◌, arith}
-use lib.Bits.{bit_or}
-use Rattle.std.proofs.lemmas.List.{take_all}
+use Rattle.std.proofs.Common.{◌∙◌, true, ◌-◌, ◌&&◌, ◌||◌, ltb, eqb, length, get_or, false, ap, arith, rules}
+use Rattle.machine.specs.declared.position.Position.TheVariants.{End}
 use Rattle.machine.specs.Masks.{mask}
+use Rattle.machine.specs.Views.{is_end}
 use Rattle.positions.specs.Sets.{start_bits}
-use Rattle.positions.proofs.Digits.{bits_more}
-use Rattle.positions.proofs.Rule.{starts_more, length-starts}
+use Rattle.positions.specs.Tabs.{from_fn-tab}
+use Rattle.positions.proofs.Bits.{mask-tab, start_tested}
+use Rattle.positions.proofs.Rule.{length-starts}
 use Rattle.positions.proofs.masks.start_mask.Goals as goal
-use Rattle.positions.proofs.masks.start_mask.Goals.{then-first, else-first}
-
-pub loop-j-init : goal.loop-j-init
-unfolding mask
-loop-j-init c = (refl, refl)
-
-pub loop-j-preserved : goal.loop-j-preserved
-loop-j-preserved c =
-    let ps = c.args.positions.now in
-    let xs = start_bits true ps in
-    let j = c.loop-j.j in
-    let n = length-starts true ps in
-    let more = starts_more c.loop-j.first ps xs j (omega arith) n c.loop-j.invariant.1 in
-    let bits = bits_more 32 xs j c.loop-j.first (omega arith) (omega arith) more.0 in
-    let old = c.loop-j.invariant.0 in (
-      elim c.if-first.branch [
-        | then-first w ↦ w.starts-is ∙ ap (λ m. bit_or m ((1 * 2 ^ j) % 2 ^ 32)) old ∙ sym (ap (λ t. cond t (bit_or (mask (take j xs)) ((1 * 2 ^ j) % 2 ^ 32)) (mask (take j xs))) w.if-first.true) ∙ bits
-        | else-first w ↦ w.starts-is ∙ old ∙ sym (ap (λ t. cond t (bit_or (mask (take j xs)) ((1 * 2 ^ j) % 2 ^ 32)) (mask (take j xs))) w.if-first.false) ∙ bits
-      ],
-      ap (λ b. start_bits b (drop (j + 1) ps)) c.is_end-first.ensures ∙ more.1,
-    )
 
 pub returns : goal.returns
 returns c =
-    let xs = start_bits true c.args.positions.now in
-    c.loop-j.invariant.0 ∙ ap mask (take_all c.loop-j.j xs (omega (arith, length-starts true c.args.positions.now)))
+    let ps = c.args.positions.now in
+    let test = λ (j : _). ltb j (length ps) && (eqb j 0 || is_end (get_or ps (j - 1) End)) in
+    c.mask_of.ensures ∙ ap mask (from_fn-tab _ _ test 32 (λ i x q l k. search rules) c.from_fn.result false c.from_fn.ensures.items)
+    ∙ mask-tab test 32 (start_bits true ps) (omega (arith, length-starts true ps)) (λ k h. start_tested ps k)

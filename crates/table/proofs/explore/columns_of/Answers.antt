@@ -1,7 +1,9 @@
-use Rattle.std.proofs.Common.{◌+◌, ◌*◌, ◌/◌, ◌%◌, get_or, ◌∙◌, arith}
-use Rattle.std.proofs.lemmas.List.Edits.{fill_by_more}
-use Rattle.std.proofs.lemmas.List.{length-set}
+use Rattle.std.proofs.Common.{ℕ, ◌+◌, ◌*◌, ◌/◌, ◌%◌, get_or, ap, ◌∙◌, rules}
+use Rattle.positions.specs.Tabs.{get_or-tab, from_fn-tab}
 use Rattle.table.proofs.explore.columns_of.Goals as goal
 
-pub loop-k-preserved : goal.loop-k-preserved
-loop-k-preserved c = (length-set _ _ _ ∙ c.loop-k.invariant.0, fill_by_more (λ j. get_or c.args.next.now (j % 32 * 16 + j / 32) 0) c.loop-k.columns c.loop-k.k 0 (omega (arith, c.loop-k.invariant.0)) c.loop-k.invariant.1)
+pub returns : goal.returns
+returns c =
+    let at = λ (k : ℕ). get_or c.args.next.now (k % 32 * 16 + k / 32) 0 in
+    let e = from_fn-tab _ _ at 512 (λ i x q l k. search rules) c.from_fn.result 0 c.from_fn.ensures.items in
+    (c.from_fn.ensures.items.long, λ k l. ap (λ xs. get_or xs k 0) e ∙ get_or-tab at 512 k 0 l)

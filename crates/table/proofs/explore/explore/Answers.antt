@@ -6,19 +6,19 @@ use Rattle.table.proofs.explore.explore.Goals as goal
 
 pub invariant_of-result : goal.invariant_of-result
 invariant_of-result c =
-    let f = c.try_states.new.found in
-    let h = c.if-not-try_states.ensures.1 in
+    let f = c.try_states.new.self.found in
+    let h = c.in_ok-try_states.ensures.1 in
     record {
       size = h.size;
-      ok = filled_ok _ _ _ (seen f) c.try_states.new.next (omega (arith, length_seen f, f.within)) h;
+      ok = filled_ok _ _ _ (seen f) c.try_states.new.self.next (omega (arith, length_seen f, f.within)) h;
       whole = c.columns_of-columns.ensures.0;
       turned = c.columns_of-columns.ensures.1;
     }
 
-pub returns-then-not-try_states : goal.returns-then-not-try_states
+pub returns-in_err-try_states : goal.returns-in_err-try_states
 unfolding seen
-returns-then-not-try_states c = c.if-not-try_states.ensures
+returns-in_err-try_states c = rw c.from_residual.ensures c.in_err-try_states.ensures
 
 pub returns : goal.returns
 unfolding seen
-returns c = record { all = c.if-not-try_states.ensures.0; filled = c.if-not-try_states.ensures.1 }
+returns c = record { all = c.in_ok-try_states.ensures.0; filled = c.in_ok-try_states.ensures.1 }

@@ -1,9 +1,20 @@
-use Rattle.std.proofs.Common.{arith}
-use Rattle.positions.proofs.Lining.{lining_none, lining_more}
+use Rattle.std.proofs.Common.{refl, rules}
+use Rattle.positions.specs.Tabs.{from_fn-tab}
+use Rattle.positions.proofs.Lining.{lining, first_of, last_of}
 use Rattle.positions.proofs.lines.Lines.ending.Goals as goal
 
-pub loop-q-preserved : goal.loop-q-preserved
-loop-q-preserved c = lining_more c.args.lasts.now c.loop-q.q c.loop-q.first c.loop-q.last c.loop-q.next c.requires.few c.requires.low c.requires.rising (omega arith) c.loop-q.invariant
+pub invariant_of-result : goal.invariant_of-result
+invariant_of-result c =
+    let xs = c.args.lasts.now in
+    let f = from_fn-tab _ _ (first_of xs) 8 (λ i x q l k. search rules) c.from_fn-first.result 0 c.from_fn-first.ensures.items in
+    let l = from_fn-tab _ _ (last_of xs) 8 (λ i x q l k. search rules) c.from_fn-last.result 0 c.from_fn-last.ensures.items in
+    let h = lining xs c.from_fn-first.result c.from_fn-last.result c.requires.few c.requires.low c.requires.rising f l in
+    record { firsts = c.from_fn-first.ensures.items.long; lasts = c.from_fn-last.ensures.items.long; begin = λ k _. h.begin k; end = λ k _. h.end k; within = c.requires.few }
 
-pub loop-q-init : goal.loop-q-init
-loop-q-init c = lining_none c.args.lasts.now
+pub returns : goal.returns
+returns c =
+    let xs = c.args.lasts.now in
+    let f = from_fn-tab _ _ (first_of xs) 8 (λ i x q l k. search rules) c.from_fn-first.result 0 c.from_fn-first.ensures.items in
+    let l = from_fn-tab _ _ (last_of xs) 8 (λ i x q l k. search rules) c.from_fn-last.result 0 c.from_fn-last.ensures.items in
+    let h = lining xs c.from_fn-first.result c.from_fn-last.result c.requires.few c.requires.low c.requires.rising f l in
+    record { count = refl; last = h.last; first = h.first; rest = h.rest }

@@ -1,11 +1,8 @@
-use Rattle.std.proofs.Common.{◌^◌, arith}
+use Rattle.std.proofs.Common.{◌^◌, rules}
 use Rattle.std.proofs.lemmas.Nat.{one_shl}
-use Rattle.positions.specs.Tabs.{is_tab, filled_more}
+use Rattle.positions.specs.Tabs.{from_fn-tab}
 use Rattle.relation.specs.Relations.{same-action}
 use Rattle.relation.proofs.related.RelationMachineMachine.stay.Goals as goal
 
-pub loop-i-preserved : goal.loop-i-preserved
-loop-i-preserved c = filled_more (λ k. 2 ^ k) c.loop-i.rows 32 c.loop-i.i _ 0 (omega arith) (one_shl c.loop-i.i 32 (omega arith)) c.loop-i.invariant
-
 pub returns : goal.returns
-returns c = same-action _ _ (is_tab _ c.loop-i.rows 32 0 c.loop-i.invariant.0 (λ k h. c.loop-i.invariant.1 k (omega arith)))
+returns c = same-action _ _ (from_fn-tab _ _ (λ i. 2 ^ i) 32 (λ i x q l k. let e = one_shl i 32 l in search rules) c.from_fn.result 0 c.from_fn.ensures.items)
