@@ -1,4 +1,3 @@
-pub mod Ranges
 pub mod Endings
 pub mod Listed
 pub mod Matches

@@ -1,78 +1,105 @@
--- The matches of rows, one row and one query at a time.
-use Rattle.std.proofs.Common.{◌≡◌, ℕ, ◌+◌, ◌<◌, ◌≤◌, Bool, true, false, cond, List, [], ◌∷◌, ◌++◌, length, get_or, take, drop, set, Some, None, Option, sym, refl, ap, ◌∙◌, append-nil, add-zero, arith}
-use Rattle.std.proofs.lemmas.List.{take-append-drop, take_more, length-append, length-take-le, length_push}
+-- The matches of rows, counted and written.
+use Rattle.std.proofs.Common.{◌≡◌, ℕ, ◌+◌, ◌<◌, ◌≤◌, Bool, true, false, cond, List, [], ◌∷◌, ◌++◌, length, drop, get_or, set, Some, None, Option, sym, refl, ap, ◌∙◌, subst, ◌⊎◌, ⊎_elim, append-nil, length-set, arith}
+use Rattle.std.specs.List.{sum_by, count_by}
+use Rattle.std.proofs.lemmas.List.{length-append, at_drop_more}
+use Rattle.std.proofs.lemmas.List.Sums.{sum_by-cons}
 use Rattle.machine.specs.Model.{Model}
 use Rattle.rows.specs.declared.row.Row.{Row}
 use Rattle.rows.specs.Pieces.{Entry}
-use Rattle.rows.specs.Places as places
 use Rattle.rows.specs.Places.{stored, paired, entry}
 use Rattle.rows.specs.Lists.{splice}
-use Rattle.rows.proofs.Pairs.{length-paired, read-paired}
+use Rattle.rows.proofs.Splices.{splice-none, splice-push, splice-splice}
 use Rattle.answers.specs.declared.matches.Match.{Match}
 use Rattle.answers.specs.Own.{matches_at}
 use Rattle.answers.specs.Finish.{row_matches}
 use Rattle.answers.proofs.Wholes.{row-matches-append}
 use Rattle.finishing.specs.Ends.{last_row}
-use Rattle.rows.proofs.Splices.{splice-push, splice-splice}
 
-abbrev pub match_of : ℕ → ℕ → Match
+abbrev match_of : ℕ → ℕ → Match
 match_of p q = record { place = p; query = q }
 
-pub matches-append : (p q : ℕ) (xs ys : List Bool) → matches_at p q (xs ++ ys) ≡ matches_at p q xs ++ matches_at p (q + length xs) ys
-matches-append p q [] ys = ap (λ k. matches_at p k ys) (sym (add-zero q))
-matches-append p q (b ∷ xs) ys =
-    let e : (q + 1) + length xs ≡ q + length (b ∷ xs) = omega arith in
-    let ih : matches_at p (q + 1) (xs ++ ys) ≡ matches_at p (q + 1) xs ++ matches_at p (q + length (b ∷ xs)) ys = matches-append p (q + 1) xs ys ∙ ap (λ k. matches_at p (q + 1) xs ++ matches_at p k ys) e in
-    elim b as (λ t. cond t (match_of p q ∷ matches_at p (q + 1) (xs ++ ys)) (matches_at p (q + 1) (xs ++ ys)) ≡ cond t (match_of p q ∷ matches_at p (q + 1) xs) (matches_at p (q + 1) xs) ++ matches_at p (q + length (b ∷ xs)) ys)
-    [ true ↦ ap (λ l. match_of p q ∷ l) ih | false ↦ ih ]
-
 -- how many there are does not depend on where they stand
-pub matches-number : (p q o k : ℕ) (bs : List Bool) → length (matches_at p q bs) ≡ length (matches_at o k bs)
-matches-number p q o k [] = refl
-matches-number p q o k (b ∷ bs) =
-    let ih = matches-number p (q + 1) o (k + 1) bs in
-    elim b as (λ t. length (cond t (match_of p q ∷ matches_at p (q + 1) bs) (matches_at p (q + 1) bs)) ≡ length (cond t (match_of o k ∷ matches_at o (k + 1) bs) (matches_at o (k + 1) bs)))
-    [ true ↦ omega (arith, ih) | false ↦ ih ]
+pub counted : (p q : ℕ) (bs : List Bool) → length (matches_at p q bs) ≡ count_by (λ b. b) bs
+counted p q [] = refl
+counted p q (b ∷ bs) =
+    let ih = counted p (q + 1) bs in
+    elim b as (λ t. length (cond t (match_of p q ∷ matches_at p (q + 1) bs) (matches_at p (q + 1) bs)) ≡ count_by (λ x. x) (t ∷ bs)) [
+      | true ↦ let s = sum_by-cons (λ x. cond x 1 0) true bs in omega (arith, ih, s)
+      | false ↦ let s = sum_by-cons (λ x. cond x 1 0) false bs in omega (arith, ih, s)
+    ]
 
--- a part of a set has no more matches than the whole
-matches-part : (p : ℕ) (bs : List Bool) (q : ℕ) → length (matches_at p 0 (take q bs)) ≤ length (matches_at p 0 bs)
-matches-part p bs q =
-    let e = ap (λ l. length (matches_at p 0 l)) (sym (take-append-drop q bs)) ∙ ap length (matches-append p 0 (take q bs) (drop q bs)) ∙ length-append (matches_at p 0 (take q bs)) (matches_at p (0 + length (take q bs)) (drop q bs)) in
-    omega (arith, e)
+-- matches that are still to be written from n on, up to end, so that a list becomes the whole
+pub record Pending (n : ℕ) (more ms whole : List Match) (end : ℕ) : Type 0 where
+  pub is : splice n more ms ≡ whole
+  pub ends : n + length more ≡ end
+  pub room : end ≤ length ms
 
--- one query of a set
-module _ (p : ℕ) (bs : List Bool) (q : ℕ) (in-set : q < length bs) where
-  abbrev so_far : List Match
-  so_far = matches_at p 0 (take q bs)
+pub all-pending : (n : ℕ) (more ms : List Match) (end : ℕ) → n + length more ≡ end → end ≤ length ms → Pending n more ms (splice n more ms) end
+all-pending n more ms end e h = record { is = refl; ends = e; room = h }
 
-  abbrev and_one : List Match
-  and_one = matches_at p 0 (take (q + 1) bs)
+module _ {n : ℕ} {ms whole : List Match} {end : ℕ} where
+  pub pending-as : {more same : List Match} → more ≡ same → Pending n more ms whole end → Pending n same ms whole end
+  pending-as e p = subst (λ l. Pending n l ms whole end) e p
 
-  next-query : and_one ≡ so_far ++ matches_at p q (get_or bs q false ∷ [])
-  next-query =
-      let e : 0 + length (take q bs) ≡ q = let n = length-take-le q bs (omega arith) in omega arith in
-      ap (matches_at p 0) (take_more bs q false in-set) ∙ matches-append p 0 (take q bs) (get_or bs q false ∷ []) ∙ ap (λ k. so_far ++ matches_at p k (get_or bs q false ∷ [])) e
+  pub pending-moved : {more : List Match} {n' : ℕ} {ms' : List Match} → n' ≡ n → ms' ≡ ms → Pending n more ms whole end → Pending n' more ms' whole end
+  pending-moved {more} {n'} e f p = subst (λ l. Pending n' more l whole end) (sym f) (subst (λ k. Pending k more ms whole end) (sym e) p)
 
-  in-the-set : get_or bs q false ≡ true → and_one ≡ so_far ++ match_of p q ∷ []
-  in-the-set h = next-query ∙ ap (λ b. so_far ++ matches_at p q (b ∷ [])) h
+  pub one_written : {x : Match} {more : List Match} → Pending n (x ∷ more) ms whole end → Pending (n + 1) more (set ms n x) whole end
+  one_written {x} {more} p =
+      let zero-more : n ≡ n + 0 = omega arith in
+      let here : set ms n x ≡ splice n (x ∷ []) ms = sym (ap (λ l. set l n x) (splice-none n ms)) ∙ ap (λ k. set (splice n [] ms) k x) zero-more ∙ splice-push n [] ms 0 x refl (omega (arith, p.ends, p.room)) in
+      let long = length-set ms n x in
+      record {
+        is = ap (splice (n + 1) more) here ∙ splice-splice n (x ∷ []) more ms 1 refl (omega (arith, p.ends, p.room)) ∙ p.is;
+        ends = omega (arith, p.ends);
+        room = omega (arith, long, p.room);
+      }
 
-  pub not-in-set : get_or bs q false ≡ false → and_one ≡ so_far
-  not-in-set h = next-query ∙ ap (λ b. so_far ++ matches_at p q (b ∷ [])) h ∙ append-nil so_far
+  pub part-written : (xs : List Match) {more ms' : List Match} → Pending n (xs ++ more) ms whole end → ms' ≡ splice n xs ms → length ms' ≡ length ms → Pending (n + length xs) more ms' whole end
+  part-written xs {more} p e long =
+      let sum = length-append xs more in
+      record {
+        is = ap (splice (n + length xs) more) e ∙ splice-splice n xs more ms (length xs) refl (omega (arith, sum, p.ends, p.room)) ∙ p.is;
+        ends = omega (arith, sum, p.ends);
+        room = omega (arith, long, p.room);
+      }
 
-  pub one-counted : get_or bs q false ≡ true → length and_one ≡ length so_far + 1
-  one-counted h = ap length (in-the-set h) ∙ length_push so_far (match_of p q)
+  pub written-all : Pending n [] ms whole end → (ms ≡ whole) × (n ≡ end)
+  written-all p = (sym (splice-none n ms) ∙ p.is, omega (arith, p.ends))
 
-  -- written into a list, from a place on
-  module _ (old ms : List Match) (at n : ℕ) (written : ms ≡ splice at so_far old) (here : n ≡ at + length so_far) (room : at + length (matches_at p 0 bs) ≤ length old) where
-    pub has_room : get_or bs q false ≡ true → n < length old
-    has_room h = let a = one-counted h in let b = matches-part p bs (q + 1) in omega arith
+-- the queries of a set from q on
+pub next-marked : (p q : ℕ) (bs : List Bool) → q < length bs → get_or bs q false ≡ true → matches_at p q (drop q bs) ≡ match_of p q ∷ matches_at p (q + 1) (drop (q + 1) bs)
+next-marked p q bs h e = at_drop_more (matches_at p q) bs q false h ∙ ap (λ b. cond b (match_of p q ∷ matches_at p (q + 1) (drop (q + 1) bs)) (matches_at p (q + 1) (drop (q + 1) bs))) e
 
-    pub one_written : get_or bs q false ≡ true → set ms n (match_of p q) ≡ splice at and_one old
-    one_written h =
-        let r = has_room h in
-        ap (λ k. set ms k (match_of p q)) here ∙ ap (λ l. set l (at + length so_far) (match_of p q)) written
-        ∙ splice-push at so_far old (length so_far) (match_of p q) refl (omega arith)
-        ∙ ap (λ l. splice at l old) (sym (in-the-set h))
+pub next-unmarked : (p q : ℕ) (bs : List Bool) → q < length bs → get_or bs q false ≡ false → matches_at p q (drop q bs) ≡ matches_at p (q + 1) (drop (q + 1) bs)
+next-unmarked p q bs h e = at_drop_more (matches_at p q) bs q false h ∙ ap (λ b. cond b (match_of p q ∷ matches_at p (q + 1) (drop (q + 1) bs)) (matches_at p (q + 1) (drop (q + 1) bs))) e
+
+-- how many matches rows have, by their actions
+pub count-rows : {P Q : Type 0} (m : Model P Q) (rs : List Row) (ps : List P) → length rs ≡ length ps → length (row_matches m (paired rs ps)) ≡ sum_by (λ p. count_by (λ b. b) (m.marks p)) ps
+count-rows m [] [] h = refl
+count-rows m [] (p ∷ ps) h = absurd (omega arith)
+count-rows m (r ∷ rs) [] h = absurd (omega arith)
+count-rows m (r ∷ rs) (p ∷ ps) h =
+    let ih = count-rows m rs ps (omega arith) in
+    let own = counted r.place 0 (m.marks p) in
+    let all = length-append (matches_at r.place 0 (m.marks p)) (row_matches m (paired rs ps)) in
+    let s = sum_by-cons (λ x. count_by (λ b. b) (m.marks x)) p ps in
+    omega (arith, ih, own, all, s)
+
+module _ {P Q : Type 0} (m : Model P Q) where
+  -- rows and actions by other names
+  pub same-matches : {rs rs' : List Row} {ps ps' : List P} → rs' ≡ rs → ps' ≡ ps → row_matches m (paired rs' ps') ≡ row_matches m (paired rs ps)
+  same-matches e f = cc
+
+  -- the first row's matches, and those of the others
+  pub next-row : (r : Row) (p : P) {rs more : List Row} {ps acts : List P} → rs ≡ r ∷ more → ps ≡ p ∷ acts → row_matches m (paired rs ps) ≡ matches_at r.place 0 (m.marks p) ++ row_matches m (paired more acts)
+  next-row r p e f = same-matches e f
+
+-- where rows or actions end
+pub paired-ended : {P : Type 0} (rs : List Row) (ps : List P) → (length rs ≡ 0) ⊎ (length ps ≡ 0) → paired rs ps ≡ []
+paired-ended [] ps h = refl
+paired-ended (r ∷ rs) [] h = refl
+paired-ended (r ∷ rs) (p ∷ ps) h = ⊎_elim (λ e. absurd (omega arith)) (λ e. absurd (omega arith)) h
 
 -- the row of the last stretch
 pub with_none : {A P : Type 0} (m : Model A P) (es : List (Entry P)) (more : Option (Row × P)) → more ≡ None → row_matches (stored m) (es ++ last_row more) ≡ row_matches (stored m) es
@@ -87,48 +114,3 @@ with_one m es more r p e =
 -- there are at least as many as the rows have
 pub with_more : {A P : Type 0} (m : Model A P) (es fs : List (Entry P)) → length (row_matches (stored m) es) ≤ length (row_matches (stored m) (es ++ fs))
 with_more m es fs = let e = ap length (row-matches-append [] (stored m) es fs) ∙ length-append (row_matches (stored m) es) (row_matches (stored m) fs) in omega (arith, e)
-
--- one row
-module _ {A P : Type 0} (m : Model A P) (rs : List Row) (ps : List P) (sizes : length rs ≡ length ps) (i : ℕ) (in_rows : i < length rs) (p : P) (here : p ≡ get_or ps i p) where
-  pub next_row : row_matches (stored m) (take (i + 1) (paired rs ps)) ≡ row_matches (stored m) (take i (paired rs ps)) ++ matches_at (places.at rs i).place 0 ((stored m).marks p)
-  next_row =
-      let es = paired rs ps in
-      let n : i < length es = let e = length-paired rs ps sizes in omega arith in
-      ap (row_matches (stored m)) (take_more es i (entry (places.at rs i) p) n)
-      ∙ row-matches-append [] (stored m) (take i es) (get_or es i (entry (places.at rs i) p) ∷ [])
-      ∙ ap (λ e. row_matches (stored m) (take i es) ++ row_matches (stored m) (e ∷ [])) (sym (read-paired rs ps i p sizes in_rows here))
-      ∙ ap (λ l. row_matches (stored m) (take i es) ++ l) (append-nil (matches_at (places.at rs i).place 0 ((stored m).marks p)))
-
-pub rows_part : {A P : Type 0} (m : Model A P) (es : List (Entry A)) (i : ℕ) → length (row_matches m (take i es)) ≤ length (row_matches m es)
-rows_part m es i =
-    let e = ap (λ l. length (row_matches m l)) (sym (take-append-drop i es)) ∙ ap length (row-matches-append [] m (take i es) (drop i es)) ∙ length-append (row_matches m (take i es)) (row_matches m (drop i es)) in
-    omega (arith, e)
-
--- one row's matches, written after those of the rows before
-module _ {A P : Type 0} (m : Model A P) (rs : List Row) (ps : List P) (sizes : length rs ≡ length ps) (i : ℕ) (in_rows : i < length rs) (p : P) (here : p ≡ get_or ps i p)
-    (old ms : List Match) (at n : ℕ) (written : ms ≡ splice at (row_matches (stored m) (take i (paired rs ps))) old) (end : n ≡ at + length (row_matches (stored m) (take i (paired rs ps))))
-    (room : at + length (row_matches (stored m) (paired rs ps)) ≤ length old) where
-  abbrev before : List Match
-  before = row_matches (stored m) (take i (paired rs ps))
-
-  abbrev own : List Match
-  own = matches_at (places.at rs i).place 0 ((stored m).marks p)
-
-  abbrev after : List Match
-  after = row_matches (stored m) (take (i + 1) (paired rs ps))
-
-  number : length after ≡ length before + length own
-  number = ap length (next_row m rs ps sizes i in_rows p here) ∙ length-append before own
-
-  pub row_room : n + length own ≤ length old
-  row_room = let a = number in let b = rows_part (stored m) (paired rs ps) (i + 1) in omega arith
-
-  pub row_written : splice n own ms ≡ splice at after old
-  row_written =
-      let r = row_room in
-      ap (λ k. splice k own ms) end ∙ ap (splice (at + length before) own) written
-      ∙ splice-splice at before own old (length before) refl (omega arith)
-      ∙ ap (λ l. splice at l old) (sym (next_row m rs ps sizes i in_rows p here))
-
-  pub row-end : n + length own ≡ at + length after
-  row-end = let a = number in omega arith

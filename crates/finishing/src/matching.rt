@@ -7,7 +7,7 @@ ghost use Rattle.answers.specs.Finish.{row_matches};
 
 use answers::Match;
 use machine::Machine;
-use rows::Row;
+use rows::Entries;
 
 /// The queries that a plain form's action marks.
 pub fn marked<M: Machine>(m: &M, plain: &M::Plain) -> [bool; 8]
@@ -22,25 +22,18 @@ pub fn count_set(set: &[bool; 8]) -> usize
     ensures number { result ≡ length (matches_at 0 0 set.now) }
     ensures few { result ≤ 8 }
 {
-    let mut n = 0;
-    for q in 0..8 {
-        if set[q] {
-            n += 1;
-        }
-    }
-    n
+    set.iter().map(|marked| usize::from(*marked)).sum()
 }
 
 /// How many matches rows have.
-pub fn count_matches<M: Machine>(m: &M, rows: &[Row], actions: &[M::Plain]) -> usize
-    requires sizes { length rows.now ≡ length actions.now }
-    requires few { length rows.now ≤ 4294967296 }
-    ensures number { result ≡ length (row_matches (stored (M.model m.now)) (paired rows.now actions.now)) }
-    ensures few { result ≤ 8 * length rows.now }
+pub fn count_matches<M: Machine>(m: &M, entries: &Entries<'_, M::Plain>) -> usize
+    requires few { length entries.now.rows.now ≤ 4294967296 }
+    ensures number { result ≡ length (row_matches (stored (M.model m.now)) (paired entries.now.rows.now entries.now.actions.now)) }
+    ensures few { result ≤ 8 * length entries.now.rows.now }
 {
     let mut n = 0;
-    for i in 0..rows.len() {
-        n += count_set(&marked(m, &actions[i]));
+    for plain in entries.actions {
+        n += count_set(&marked(m, plain));
     }
     n
 }
@@ -52,11 +45,11 @@ pub fn write_set(matches: &mut [Match], at: usize, place: u32, set: &[bool; 8]) 
     ensures end { result ≡ at + length (matches_at place 0 set.now) }
 {
     let mut n = at;
-    for q in 0..8 {
-        if set[q] {
+    for (query, marked) in set.iter().enumerate() {
+        if *marked {
             matches[n] = Match {
                 place,
-                query: q as u8,
+                query: query as u8,
             };
             n += 1;
         }
@@ -64,22 +57,19 @@ pub fn write_set(matches: &mut [Match], at: usize, place: u32, set: &[bool; 8]) 
     n
 }
 
-/// Writes the matches of rows in their order, from `at` on, and says where they end.
+/// Writes the matches of rows in their order, from the list's start, and says where they end.
 pub fn write_matches<M: Machine>(
     m: &M,
-    rows: &[Row],
-    actions: &[M::Plain],
+    entries: &Entries<'_, M::Plain>,
     matches: &mut [Match],
-    at: usize,
 ) -> usize
-    requires sizes { length rows.now ≡ length actions.now }
-    requires room { at + length (row_matches (stored (M.model m.now)) (paired rows.now actions.now)) ≤ length matches.old }
-    ensures written { matches.new ≡ splice at (row_matches (stored (M.model m.now)) (paired rows.now actions.now)) matches.old }
-    ensures end { result ≡ at + length (row_matches (stored (M.model m.now)) (paired rows.now actions.now)) }
+    requires { length (row_matches (stored (M.model m.now)) (paired entries.now.rows.now entries.now.actions.now)) ≤ length matches.old }
+    ensures written { matches.new ≡ splice 0 (row_matches (stored (M.model m.now)) (paired entries.now.rows.now entries.now.actions.now)) matches.old }
+    ensures end { result ≡ length (row_matches (stored (M.model m.now)) (paired entries.now.rows.now entries.now.actions.now)) }
 {
-    let mut n = at;
-    for i in 0..rows.len() {
-        n = write_set(matches, n, rows[i].place, &marked(m, &actions[i]));
+    let mut n = 0;
+    for (row, plain) in entries.rows.iter().zip(entries.actions) {
+        n = write_set(matches, n, row.place, &marked(m, plain));
     }
     n
 }

@@ -1,5 +1,6 @@
 -- What a call may go on with, once it is allowed.
-use Rattle.std.proofs.Common.{◌≡◌, ℕ, ◌+◌, ◌-◌, ◌<◌, ◌≤◌, Bool, true, false, cond, eqb, List, [], ◌∷◌, length, take, drop, Some, None, Ok, Err, Option, Result, sym, refl, ap, ◌∙◌, subst, arith}
+use Rattle.std.proofs.Common.{◌≡◌, ℕ, ◌+◌, ◌-◌, ◌<◌, ◌≤◌, Bool, true, false, cond, eqb, List, [], ◌∷◌, length, Some, None, Ok, Err, Option, Result, sym, refl, ap, ◌∙◌, subst, arith}
+use Rattle.std.specs.List.{between}
 use Rattle.std.proofs.lemmas.Bool.Decides.{nat_tests}
 use Rattle.std.proofs.lemmas.List.{length-take, length-drop, length-take-le, get_or-take}
 use Rattle.tags.specs.Bytes.{mark}
@@ -10,9 +11,8 @@ use Rattle.rows.specs.declared.row.Row.{Row}
 use Rattle.rows.specs.Stretches.{joined_ends, last_put}
 use Rattle.rows.specs.Places.{stored, paired}
 use Rattle.rows.specs.declared.part.Kept.{Kept}
-use Rattle.rows.specs.Lists.{RowRule, held, ends_of, rows_of, actions_of, Written, Leaves}
+use Rattle.rows.specs.Lists.{RowRule, ends_of, rows_of, actions_of, Written, Leaves}
 use Rattle.rows.specs.Pieces.{Content}
-use Rattle.rows.proofs.Pairs.{take-paired}
 use Rattle.answers.specs.declared.fault.Fault.{Fault}
 use Rattle.answers.specs.declared.matches.Match.{Match}
 use Rattle.answers.specs.Finish.{finish}
@@ -20,10 +20,10 @@ use Rattle.job.specs.declared.answer.Answer.{Answer}
 use Rattle.job.specs.declared.piece.Piece.{Piece}
 use Rattle.job.specs.declared.job.Job.{Job}
 use Rattle.job.specs.Pieces.{InPlace, no_piece}
-use Rattle.job.specs.State.{World, world, seen, nth_piece, finished, all_inside, allowed, asked_read, asked_join, asked_whole, asked_matches, with_kept, Turns, Refused, Unchanged, Accepted, Ended, AnswerSays, FinishSays}
+use Rattle.job.specs.State.{World, world, seen, nth_piece, finished, allowed, asked_read, asked_join, asked_whole, asked_matches, with_kept, Turns, Refused, Unchanged, Accepted, Ended, AnswerSays, FinishSays}
 use Rattle.job.proofs.Asked.{turns_some, read-free, join_free, finish-free, whole-later}
 use Rattle.job.proofs.Ruled.{rule-of}
-use Rattle.rows.proofs.Splices.{part-front}
+use Rattle.job.proofs.Ranges.{part-paired}
 
 module _ {X : Type 0} where
   pub allowed-none : (o : Option Refusal) (x y : X) (r : Result X Refusal) → r ≡ allowed o x → r ≡ Ok y → (o ≡ None) × (y ≡ x)
@@ -171,49 +171,45 @@ read_told file j rs ps from to told q e f =
       marks = (let b = count_few file from to in omega arith);
     }
 
--- what a finish was told, where it may look at the rows: the first n of each list, as many as both have
-pub record FinishTold {A P : Type 0} (m : Model A P) (file : List ℕ) (j : Job) (rs : List Row) (ps : List P) (piece : ℕ) (p : Piece) (n : ℕ) : Type 0 where
+-- what a finish was told, where it may look at the rows
+pub record FinishTold {P : Type 0} (file : List ℕ) (j : Job) (rs : List Row) (ps : List P) (piece : ℕ) (p : Piece) : Type 0 where
   pub none : asked_whole file (world j rs ps) piece None ≡ None
   pub is : p ≡ nth_piece (seen j) piece
   pub bytes : length file < 4294967296
-  pub sizes : length (take n rs) ≡ length (take n ps)
-  pub within : p.part.at + p.part.kept.rows ≤ length (take n rs)
-  pub rule : RowRule file (take n rs) p.part.at p.part.kept.rows
+  pub in_rows : p.part.at + p.part.kept.rows ≤ length rs
+  pub in_acts : p.part.at + p.part.kept.rows ≤ length ps
+  pub rule : RowRule file rs p.part.at p.part.kept.rows
   pub few : p.part.kept.rows ≤ 4294967296
-  pub same : finish (stored m) (last_put file (stored m) (ends_of p.part) (held (take n rs) (take n ps) p.part)) ≡ finished file m (world j rs ps) (nth_piece (seen j) piece)
 
-pub finish-told : {A P : Type 0} (m : Model A P) (file : List ℕ) (j : Job) (rs : List Row) (ps : List P) (piece : ℕ) (p : Piece) (n : ℕ) (q : Result Piece Refusal) →
-    q ≡ allowed (asked_whole file (world j rs ps) piece None) (nth_piece (seen j) piece) → q ≡ Ok p →
-    n ≤ length rs → n ≤ length ps → ((k : ℕ) → k ≤ length rs → k ≤ length ps → k ≤ n) → FinishTold m file j rs ps piece p n
-finish-told m file j rs ps piece p n q e f in_rows in_acts most =
+pub finish-told : {P : Type 0} (file : List ℕ) (j : Job) (rs : List Row) (ps : List P) (piece : ℕ) (p : Piece) (q : Result Piece Refusal) →
+    q ≡ allowed (asked_whole file (world j rs ps) piece None) (nth_piece (seen j) piece) → q ≡ Ok p → FinishTold file j rs ps piece p
+finish-told file j rs ps piece p q e f =
     let a = allowed-none (asked_whole file (world j rs ps) piece None) (nth_piece (seen j) piece) p q e f in
-    subst (λ (x : Piece). FinishTold m file j rs ps piece x n) (sym a.1) (told a.0)
+    subst (λ (x : Piece). FinishTold file j rs ps piece x) (sym a.1) (told a.0)
   where
-    told : asked_whole file (world j rs ps) piece None ≡ None → FinishTold m file j rs ps piece (nth_piece (seen j) piece) n
+    told : asked_whole file (world j rs ps) piece None ≡ None → FinishTold file j rs ps piece (nth_piece (seen j) piece)
     told none =
         let free = (finish-free file (world j rs ps) piece None none).0 in
         let x = nth_piece (seen j) piece in
         let px = placed_at j piece free.made in
         let reach = free.reaches in
-        let at = x.part.at in
-        let k = x.part.kept.rows in
-        let fits : at + k ≤ n = most (at + k) (let b = px.2 in let h = reach.over_rows in omega arith) (let b = px.2 in let h = reach.over_acts in omega arith) in
-        let rows_are : take k (drop at (take n rs)) ≡ take k (drop at rs) = part-front n rs at k in_rows fits in
-        let acts-are : take k (drop at (take n ps)) ≡ take k (drop at ps) = part-front n ps at k in_acts fits in
-        let lr = length-take-le n rs in_rows in
-        let lp = length-take-le n ps in_acts in
-        let es : take k (paired (drop at (take n rs)) (drop at (take n ps))) ≡ take k (paired (drop at rs) (drop at ps)) =
-        sym (take-paired k (drop at (take n rs)) (drop at (take n ps))) ∙ ap (λ xs. paired xs (take k (drop at (take n ps)))) rows_are ∙ ap (paired (take k (drop at rs))) acts-are ∙ take-paired k (drop at rs) (drop at ps) in
+        let in_rows : x.part.at + x.part.kept.rows ≤ length rs = let b = px.2 in let h = reach.over_rows in omega arith in
         record {
           none = none;
           is = refl;
           bytes = (let b = reach.same in let c = j.short in omega arith);
-          sizes = lr ∙ sym lp;
-          within = (let b = lr in omega arith);
-          rule = rule-of file (take n rs) at k (let b = lr in omega arith) (ap (all_inside file) rows_are ∙ free.rule);
+          in_rows = in_rows;
+          in_acts = (let b = px.2 in let h = reach.over_acts in omega arith);
+          rule = rule-of file rs x.part.at x.part.kept.rows in_rows free.rule;
           few = (let b = px.3 in let c = px.4 in let d = px.1 in let u = j.short in omega arith);
-          same = ap (λ zs. finish (stored m) (last_put file (stored m) (ends_of x.part) (record { rows = zs; fault = x.part.kept.fault }))) es;
         }
+
+-- what a piece's rows come to, by themselves
+pub finished_part : {A P : Type 0} (m : Model A P) (file : List ℕ) (j : Job) (rs : List Row) (ps : List P) (piece : ℕ) (p : Piece) → p ≡ nth_piece (seen j) piece →
+    finish (stored m) (last_put file (stored m) (ends_of p.part) (record { rows = paired (between p.part.at (p.part.at + p.part.kept.rows) rs) (between p.part.at (p.part.at + p.part.kept.rows) ps); fault = p.part.kept.fault })) ≡ finished file m (world j rs ps) (nth_piece (seen j) piece)
+finished_part m file j rs ps piece p e =
+    ap (λ zs. finish (stored m) (last_put file (stored m) (ends_of p.part) (record { rows = zs; fault = p.part.kept.fault }))) (part-paired rs ps p.part.at p.part.kept.rows)
+    ∙ ap (finished file m (world j rs ps)) e
 
 -- an answer, where nothing was refused before
 pub finish-turns : {A P : Type 0} (m : Model A P) (file : List ℕ) (w : World P) (piece : ℕ) (o : Result (List Match) Fault) (ms : List Match) (r : Result Answer Refusal) (ns : List Match) →

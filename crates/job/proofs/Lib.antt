@@ -1,3 +1,4 @@
 pub mod Asked
 pub mod Ruled
+pub mod Ranges
 pub mod Calls

@@ -1,7 +1,7 @@
 -- Rows that keep the row rule, one by one.
-use Rattle.std.proofs.Common.{◌≡◌, ℕ, zero, suc, ◌+◌, ◌<◌, ◌≤◌, true, ◌&&◌, List, [], ◌∷◌, length, take, drop, ap, ◌∙◌, subst, arith}
+use Rattle.std.proofs.Common.{◌≡◌, ℕ, zero, suc, ◌+◌, ◌<◌, ◌≤◌, true, List, [], ◌∷◌, length, take, drop, ◌∙◌, subst, arith}
 use Rattle.std.proofs.lemmas.Bool.{leb-true, and_parts}
-use Rattle.std.proofs.lemmas.List.{drop_more, drop_all, get_or-drop, get_or-take, length-take, length-drop}
+use Rattle.std.proofs.lemmas.List.{get_or-drop, get_or-take, length-take, length-drop}
 use Rattle.rows.specs.declared.row.Row.{Row}
 use Rattle.rows.specs.Pieces.{Inside}
 use Rattle.rows.specs.Places.{at, no_row}
@@ -9,12 +9,6 @@ use Rattle.rows.specs.Lists.{RowRule}
 use Rattle.job.specs.State.{inside, all_inside}
 
 module _ (file : List ℕ) where
-  pub inside-more : (rs : List Row) (i : ℕ) → i < length rs → all_inside file (drop i rs) ≡ inside file (at rs i) && all_inside file (drop (i + 1) rs)
-  inside-more rs i h = ap (all_inside file) (drop_more rs i no_row h)
-
-  pub inside-none : (rs : List Row) (i : ℕ) → length rs ≤ i → all_inside file (drop i rs) ≡ true
-  inside-none rs i h = ap (all_inside file) (drop_all i rs h)
-
   each-inside : (rs : List Row) → all_inside file rs ≡ true → (k : ℕ) → k < length rs → Inside file (at rs k)
   each-inside [] e k h = absurd (omega arith)
   each-inside (r ∷ rs) e zero h = leb-true _ _ (and_parts (inside file r) (all_inside file rs) e).0

@@ -1,5 +1,6 @@
 -- What each call answers, and what it leaves.
-use Rattle.std.specs.Prelude.{◌≡◌, ℕ, ◌+◌, Bool, true, cond, ◌&&◌, List, [], ◌∷◌, ◌++◌, length, take, drop, Some, None, Ok, Err, Option, Result, ◌==◌, nat_le, nat_lt, slice_index_or}
+use Rattle.std.specs.Prelude.{◌≡◌, ℕ, ◌+◌, Bool, cond, ◌&&◌, List, [], ◌∷◌, ◌++◌, length, take, drop, Some, None, Ok, Err, Option, Result, ◌==◌, nat_le, nat_lt, slice_index_or}
+use Rattle.std.specs.List.{list_all}
 use Rattle.tags.specs.Marks.{scanned}
 use Rattle.machine.specs.declared.refusal.Refusal.{Refusal}
 use Rattle.machine.specs.declared.refusal.Refusal.TheVariants.{FileTooLong, OtherLength, ListsTooShort, OutOfRange, NoSuchPiece, PiecesApart, NotWhole, RowsBroken, TooManyPieces, NoRoomForRows, NoRoomForMatches}
@@ -82,8 +83,7 @@ abbrev pub inside : List ℕ → Row → Bool
 inside file r = nat_le (r.place + r.name_len + 2) (length file)
 
 abbrev pub all_inside : List ℕ → List Row → Bool
-all_inside file [] = true
-all_inside file (r ∷ rs) = inside file r && all_inside file rs
+all_inside file rows = list_all (inside file) rows
 
 -- the rows of a piece keep it
 abbrev pub ruled : List ℕ → List Row → Piece → Bool

@@ -1,34 +1,21 @@
--- Rows copied past the others, and rows that others' writes leave as they were.
+-- Parts of the lists, and what is written past them.
 use Rattle.std.proofs.Common.{◌≡◌, ℕ, ◌+◌, ◌-◌, ◌≤◌, List, ◌++◌, length, take, drop, sym, ap, ◌∙◌, subst, arith}
-use lib.Seq.{paste}
-use Rattle.std.proofs.lemmas.List.{length-take-le, length-drop, get_or-drop, drop_at, take_at, drop-take, take-take, append_assoc}
+use Rattle.std.proofs.lemmas.List.{length-drop, drop-take, drop-drop, take-take}
 use Rattle.std.proofs.lemmas.Bool.Decides.{nat_tests}
 use Rattle.machine.specs.Model.{Model}
 use Rattle.rows.specs.declared.row.Row.{Row}
 use Rattle.rows.specs.declared.part.Kept.{Kept}
 use Rattle.rows.specs.declared.part.Part.{Part}
-use Rattle.rows.specs.Pieces.{Content, Inside, put}
+use Rattle.rows.specs.Pieces.{Content, put}
 use Rattle.rows.specs.Stretches.{one, joined_at}
-use Rattle.rows.specs.Places.{paired, no_row}
-use Rattle.rows.specs.Lists.{kept_at, held, RowRule}
+use Rattle.rows.specs.Places.{paired}
+use Rattle.rows.specs.Lists.{kept_at, held, RowRule, Written}
 use Rattle.rows.proofs.Pairs.{take-paired}
-use Rattle.joining.proofs.Regions.{same-below, same-sizes}
-use Rattle.rows.proofs.Rules.{Ruled, ruled-taken, ruled-at, rule_drop}
+use Rattle.rows.proofs.Leaves.{written}
+use Rattle.rows.proofs.Rules.{Ruled, ruled-taken, rule_drop}
 
-module _ {X : Type 0} (d d' : List X) (to from n : ℕ) (is : d' ≡ paste d to (drop from d) (from + n - from)) (long : to ≤ length d) where
-  shape : d' ≡ take to d ++ (take n (drop from d) ++ drop (to + n) d)
-  shape =
-      let e : from + n - from ≡ n = omega arith in
-      is ∙ ap (paste d to (drop from d)) e ∙ append_assoc (take to d) (take n (drop from d)) (drop (to + n) d)
-
-  -- a copy leaves what lies before it
-  pub copy-front : take to d' ≡ take to d
-  copy-front = ap (take to) shape ∙ take_at (take to d) _ to (length-take-le to d long)
-
-  pub copy-here : from + n ≤ length d → take n (drop to d') ≡ take n (drop from d)
-  copy-here l =
-      ap (take n) (ap (drop to) shape ∙ drop_at (take to d) _ to (length-take-le to d long))
-      ∙ take_at (take n (drop from d)) (drop (to + n) d) n (length-take-le n (drop from d) (let w = length-drop from d in omega arith))
+pub same-sizes : {X Y : Type 0} (xs : List X) (ys : List Y) (n : ℕ) → length xs ≡ length ys → length (drop n xs) ≡ length (drop n ys)
+same-sizes xs ys n e = length-drop n xs ∙ ap (λ k. k - n) e ∙ sym (length-drop n ys)
 
 region_below : {X : Type 0} (xs ys : List X) (used r n : ℕ) → r + n ≤ used → take used xs ≡ take used ys → take n (drop r xs) ≡ take n (drop r ys)
 region_below xs ys used r n h e =
@@ -46,24 +33,24 @@ module _ {P : Type 0} where
   held_below rs rs' ps ps' used p h e f =
       same_kept rs rs' ps ps' p.at p.at p.kept (region_below rs' rs used p.at p.kept.rows h e) (region_below ps' ps used p.at p.kept.rows h f)
 
-  pub rule-kept : (file : List ℕ) (rs : List Row) (ps : List P) (from : ℕ) (k : Kept) (c : Content P) → length rs ≡ length ps → from + k.rows ≤ length rs → kept_at rs ps from k ≡ c → Ruled file c.rows → RowRule file rs from k.rows
-  rule-kept file rs ps from k c sizes h e f i l =
-      subst (Inside file) (get_or-drop from rs i no_row)
-      (ruled-at file k.rows (drop from rs) (drop from ps) (same-sizes rs ps from sizes) (let w = length-drop from rs in omega arith) (subst (λ x. Ruled file x.rows) (sym e) f) i l)
-
   pub kept_rule : (file : List ℕ) (rs : List Row) (ps : List P) (from : ℕ) (k : Kept) → length rs ≡ length ps → from + k.rows ≤ length rs → RowRule file rs from k.rows → Ruled file (kept_at rs ps from k).rows
   kept_rule file rs ps from k sizes h f =
       ruled-taken file k.rows (drop from rs) (drop from ps) (same-sizes rs ps from sizes) (let w = length-drop from rs in omega arith) (rule_drop file rs from k.rows f)
 
-pub rule_below : (file : List ℕ) (rs rs' : List Row) (used from n : ℕ) → from + n ≤ used → take used rs' ≡ take used rs → RowRule file rs from n → RowRule file rs' from n
-rule_below file rs rs' used from n h e f k l = subst (Inside file) (sym (same-below rs' rs used (from + k) no_row (omega arith) e)) (f k l)
+-- what was written after the first part of a list that was cut in two
+pub written_back : {X : Type 0} (old front back ys made : List X) (from marks n : ℕ) → front ≡ take from old → back ≡ drop from old → length ys ≡ marks → n ≤ marks → take n ys ≡ made → Written from marks made old (front ++ (ys ++ drop marks back))
+written_back old front back ys made from marks n e f size h is =
+    let d = drop-drop marks from old in
+    let same : take from old ++ (ys ++ drop (from + marks) old) ≡ front ++ (ys ++ drop marks back) = cc in
+    subst (Written from marks made old) same (written old ys made from marks n size h is)
+
+-- a part's rows, by themselves
+pub held_part : {P : Type 0} (rs : List Row) (ps : List P) (p : Part) {rows : List Row} {acts : List P} → rows ≡ take p.kept.rows (drop p.at rs) → acts ≡ take p.kept.rows (drop p.at ps) → ◌≡◌ {A = Content P} (record { rows = paired rows acts; fault = p.kept.fault }) (held rs ps p)
+held_part rs ps p e f = let t = take-paired p.kept.rows (drop p.at rs) (drop p.at ps) in cc
+
+pub put_both : {P Q : Type 0} (file : List ℕ) (m : Model P Q) (t : Content P) {x y z l r r' : Content P} → x ≡ l → y ≡ put file m x t → z ≡ put file m y r' → r' ≡ r → z ≡ put file m (put file m l t) r
+put_both file m t e f g h = cc
 
 module _ {P Q : Type 0} (file : List ℕ) (m : Model P Q) (l r : ℕ × ℕ × ℕ) (x y : Content P) where
-  pub joined-left : l.2 ≡ 0 → joined_at file m l r x y ≡ y
-  joined-left e = grind (arith, nat_tests)
-
-  pub joined-right : (l.2 ≡ 0 → ⊥) → r.2 ≡ 0 → joined_at file m l r x y ≡ x
-  joined-right h e = grind (arith, nat_tests)
-
   pub joined-both : (l.2 ≡ 0 → ⊥) → (r.2 ≡ 0 → ⊥) → joined_at file m l r x y ≡ put file m (put file m x (one file m (l.1, r.0))) y
   joined-both h e = grind (arith, nat_tests)

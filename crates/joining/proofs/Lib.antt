@@ -1,4 +1,3 @@
 pub mod Loops
-pub mod Mids
-pub mod Regions
+pub mod Firsts
 pub mod Copies

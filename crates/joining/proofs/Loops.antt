@@ -1,12 +1,13 @@
 -- The steps of a loop that takes rows.
-use Rattle.std.proofs.Common.{◌≡◌, ℕ, ◌+◌, ◌<◌, ◌≤◌, List, [], ◌∷◌, ◌++◌, length, get_or, take, drop, set, Some, None, Option, sym, refl, ap, ◌∙◌, subst, append_assoc, append-nil, arith}
-use Rattle.std.proofs.lemmas.List.{drop_all, length-take-le, at_drop_more, at_drop_all}
+use Rattle.std.proofs.Common.{◌≡◌, ℕ, suc, ◌+◌, ◌≤◌, List, [], ◌∷◌, ◌++◌, length, take, drop, set, Some, None, Option, sym, refl, ap, ◌∙◌, subst, append_assoc, append-nil, arith}
+use Rattle.std.proofs.lemmas.List.{drop_all, length-take-le}
 use Rattle.rows.specs.declared.row.Row.{Row}
 use Rattle.machine.specs.Model.{Model}
-use Rattle.rows.specs.Pieces.{Entry, base, done, Taken, take_row, run, Inside}
-use Rattle.rows.specs.Places.{paired, at, BaseAt, Based, state, close_row}
+use Rattle.rows.specs.Pieces.{Entry, Inside, done, Taken, take_row, run}
+use Rattle.rows.specs.Places.{paired, at, BaseAt, Based, state, entry, close_row}
 use Rattle.rows.proofs.Pairs.{length-paired}
 use Rattle.rows.proofs.Bases.{based_set, based_closed, names_set, names_closed}
+use Rattle.joining.specs.Taking.{FirstInside}
 
 -- what was taken so far, with more entries taken after
 abbrev pub after : {P Q : Type 0} → List ℕ → Model P Q → Taken P → List (Entry P) → Taken P
@@ -15,85 +16,113 @@ after file m t es = elim t.stop [
   | None ↦ let u = run file m t.left es in record { left = u.left; added = t.added ++ u.added; stop = u.stop }
 ]
 
--- a loop that takes entries, of which k are taken: rs and ps began as rs0 and ps0
-pub record Running {P Q : Type 0} (file : List ℕ) (m : Model P Q) (rs0 : List Row) (ps0 : List P) (left : ℕ) (more : List (Entry P)) (rs : List Row) (ps : List P) (n : ℕ) (base : Option ℕ) (k : ℕ) : Type 0 where
+-- a loop that takes entries: rs and ps hold n rows so far, the rows rest with the actions acts are to come, and it goes for all
+pub record Running {P Q : Type 0} (file : List ℕ) (m : Model P Q) (left end : ℕ) (all : Taken P) (rs : List Row) (ps : List P) (n : ℕ) (base : Option ℕ) (rest : List Row) (acts : List P) : Type 0 where
   pub low : left ≤ n
-  pub high : n ≤ left + k
+  pub high : n + length rest ≤ end
+  pub beside : length rest ≡ length acts
   pub based : Based rs left base
-  pub names : (j : ℕ) → j < left → Inside file (at rs j)
-  pub so_far : after file m (state (paired rs ps) left n None) (drop k more) ≡ run file m (take left (paired rs0 ps0)) more
+  pub names : FirstInside file rs left
+  pub own : FirstInside file rest (length rest)
+  pub so_far : after file m (state (paired rs ps) left n None) (paired rest acts) ≡ all
 
 module _ {P Q : Type 0} (file : List ℕ) (m : Model P Q) where
   after-step : (t : Taken P) (e : Entry P) (es : List (Entry P)) → after file m (take_row file m t e) es ≡ after file m t (e ∷ es)
   after-step t e es = grind (arith, append_assoc, append-nil)
 
-  after_more : (t u : Taken P) (es : List (Entry P)) (k : ℕ) (e : Entry P) → k < length es → e ≡ get_or es k e → u ≡ take_row file m t e → after file m u (drop (k + 1) es) ≡ after file m t (drop k es)
-  after_more t u es k e h r q =
-      ap (λ x. after file m x (drop (k + 1) es)) q
-      ∙ after-step t e (drop (k + 1) es)
-      ∙ ap (λ x. after file m t (x ∷ drop (k + 1) es)) r
-      ∙ sym (at_drop_more (after file m t) es k e h)
-
-  pub after-all : (t : Taken P) (es : List (Entry P)) (k : ℕ) → length es ≤ k → after file m t (drop k es) ≡ t
-  after-all t es k h = at_drop_all (after file m t) es k h ∙ grind (arith, append-nil)
-
   after-stopped : (t : Taken P) (es : List (Entry P)) (p : ℕ) → t.stop ≡ Some p → after file m t es ≡ t
   after-stopped t es p h = grind arith
 
-  module _ (rs0 : List Row) (ps0 : List P) (left : ℕ) (more : List (Entry P)) where
-    pub running_none : (base : Option ℕ) → length rs0 ≡ length ps0 → left ≤ length rs0 → Based rs0 left base → ((j : ℕ) → j < left → Inside file (at rs0 j)) → Running file m rs0 ps0 left more rs0 ps0 left base 0
-    running_none base sizes h b names = record {
-      low = omega arith;
-      high = omega arith;
-      based = b;
-      names = names;
-      so_far =
-          let z = paired rs0 ps0 in
-          let a : drop left (take left z) ≡ [] = drop_all left (take left z) (let w = length-take-le left z (let v = length-paired rs0 ps0 sizes in omega arith) in omega arith) in
-          let u = run file m (take left z) more in
-          ap (λ x. record { left = u.left; added = x ++ u.added; stop = u.stop }) a;
-    }
+  after-none : (t : Taken P) → after file m t [] ≡ t
+  after-none t = grind (arith, append-nil)
 
-    pub moved : (rs : List Row) (ps : List P) (n n' k : ℕ) (base base' : Option ℕ) → n' ≡ n → base' ≡ base → Running file m rs0 ps0 left more rs ps n base k → Running file m rs0 ps0 left more rs ps n' base' k
-    moved rs ps n n' k base base' e f r = subst (λ x. Running file m rs0 ps0 left more rs ps x base' k) (sym e) (subst (λ x. Running file m rs0 ps0 left more rs ps n x k) (sym f) r)
+module _ {P Q : Type 0} {file : List ℕ} {m : Model P Q} where
+  pub running_none : {left end : ℕ} {rs : List Row} {ps : List P} {base : Option ℕ} {rest : List Row} {acts : List P} → length rs ≡ length ps → left ≤ length rs → left + length rest ≤ end → length rest ≡ length acts → Based rs left base → FirstInside file rs left → FirstInside file rest (length rest) →
+      Running file m left end (run file m (take left (paired rs ps)) (paired rest acts)) rs ps left base rest acts
+  running_none {left} {end} {rs} {ps} {base} {rest} {acts} sizes h k beside b names own = record {
+    low = omega arith;
+    high = k;
+    beside = beside;
+    based = b;
+    names = names;
+    own = own;
+    so_far =
+        let z = paired rs ps in
+        let a : drop left (take left z) ≡ [] = drop_all left (take left z) (let w = length-take-le left z (let v = length-paired rs ps sizes in omega arith) in omega arith) in
+        let u = run file m (take left z) (paired rest acts) in
+        ap (λ x. record { left = u.left; added = x ++ u.added; stop = u.stop }) a;
+  }
 
-    module _ (rs rs' : List Row) (ps ps' : List P) (n k : ℕ) (base : Option ℕ) (e : Entry P) (run' : Running file m rs0 ps0 left more rs ps n base k) (here : k < length more) (read : e ≡ get_or more k e) where
-      pub added_more : (row : Row) → state (paired rs' ps') left (n + 1) None ≡ take_row file m (state (paired rs ps) left n None) e → rs' ≡ set rs n row → Running file m rs0 ps0 left more rs' ps' (n + 1) base (k + 1)
-      added_more row q w = record {
-        low = omega (arith, run'.low);
-        high = omega (arith, run'.high);
-        based = subst (λ x. Based x left base) (sym w) (based_set rs left n row base run'.low run'.based);
-        names = subst (λ x. (j : ℕ) → j < left → Inside file (at x j)) (sym w) (names_set file rs left n row run'.low run'.names);
-        so_far = after_more (state (paired rs ps) left n None) _ more k e here read q ∙ run'.so_far;
+  -- the rows that a loop goes over go by other names
+  pub renamed : {left end : ℕ} {all : Taken P} {rs : List Row} {ps : List P} {n : ℕ} {base : Option ℕ} {rest rest' : List Row} {acts acts' : List P} → rest' ≡ rest → acts' ≡ acts → Running file m left end all rs ps n base rest acts → Running file m left end all rs ps n base rest' acts'
+  renamed {left} {end} {all} {rs} {ps} {n} {base} {rest} {rest'} {acts} {acts'} e f r = subst (λ x. Running file m left end all rs ps n base x acts') (sym e) (subst (λ x. Running file m left end all rs ps n base rest x) (sym f) r)
+
+  module _ {left end : ℕ} {all : Taken P} {rs : List Row} {ps : List P} {n : ℕ} {base : Option ℕ} {rest more : List Row} {acts acts' : List P} {row : Row} {p : P} (runs : Running file m left end all rs ps n base rest acts) (rows-are : rest ≡ row ∷ more) (acts-are : acts ≡ p ∷ acts') where
+    own-next : FirstInside file more (length more)
+    own-next k h = let f = subst (λ x. FirstInside file x (length x)) rows-are runs.own in f (suc k) (omega arith)
+
+    pub own-here : Inside file row
+    own-here = let f = subst (λ x. FirstInside file x (length x)) rows-are runs.own in f 0 (omega arith)
+
+    next : (t : Taken P) → t ≡ take_row file m (state (paired rs ps) left n None) (entry row p) → after file m t (paired more acts') ≡ all
+    next t e =
+        ap (λ x. after file m x (paired more acts')) e
+        ∙ after-step file m (state (paired rs ps) left n None) (entry row p) (paired more acts')
+        ∙ sym (ap (λ x. after file m (state (paired rs ps) left n None) (paired x acts)) rows-are ∙ ap (λ x. after file m (state (paired rs ps) left n None) (paired (row ∷ more) x)) acts-are)
+        ∙ runs.so_far
+
+    sizes : length more ≡ length acts'
+    sizes = let a = ap length rows-are in let b = ap length acts-are in omega (arith, runs.beside)
+
+    pub high_next : (n' : ℕ) → n' ≤ n + 1 → n' + length more ≤ end
+    high_next n' h = let a = ap length rows-are in omega (arith, runs.high)
+
+    -- the row is put, and the lists are rs' and ps'
+    module _ (rs' : List Row) (ps' : List P) where
+      pub added_more : state (paired rs' ps') left (n + 1) None ≡ take_row file m (state (paired rs ps) left n None) (entry row p) → rs' ≡ set rs n row → Running file m left end all rs' ps' (n + 1) base more acts'
+      added_more q w = record {
+        low = omega (arith, runs.low);
+        high = high_next (n + 1) (omega arith);
+        beside = sizes;
+        based = subst (λ x. Based x left base) (sym w) (based_set rs left n row base runs.low runs.based);
+        names = subst (λ x. FirstInside file x left) (sym w) (names_set file rs left n row runs.low runs.names);
+        own = own-next;
+        so_far = next _ q;
       }
 
-      pub closed-more : (i : ℕ) (next : Option ℕ) → base ≡ Some i → left ≤ length rs → state (paired rs' ps') left n None ≡ take_row file m (state (paired rs ps) left n None) e → rs' ≡ close_row base rs → Based rs' i next → Running file m rs0 ps0 left more rs' ps' n next (k + 1)
-      closed-more i next is size q w b =
-          let was : BaseAt rs left i = subst (Based rs left) is run'.based in
+      pub closed-more : {i : ℕ} {next' : Option ℕ} → base ≡ Some i → left ≤ length rs → state (paired rs' ps') left n None ≡ take_row file m (state (paired rs ps) left n None) (entry row p) → rs' ≡ close_row base rs → Based rs' i next' → Running file m left end all rs' ps' n next' more acts'
+      closed-more {i} {next'} is size q w b =
+          let was : BaseAt rs left i = subst (Based rs left) is runs.based in
           let w' : rs' ≡ set rs i (done (at rs i)) = w ∙ ap (λ o. close_row o rs) is in
           record {
-            low = run'.low;
-            high = omega (arith, run'.high);
-            based = subst (λ x. Based x left next) (sym w') (based_closed rs left i next was size (subst (λ x. Based x i next) w' b));
-            names = subst (λ x. (j : ℕ) → j < left → Inside file (at x j)) (sym w') (names_closed file rs left i (omega (arith, was.below)) run'.names);
-            so_far = after_more (state (paired rs ps) left n None) _ more k e here read q ∙ run'.so_far;
+            low = runs.low;
+            high = high_next n (omega arith);
+            beside = sizes;
+            based = subst (λ x. Based x left next') (sym w') (based_closed rs left i next' was size (subst (λ x. Based x i next') w' b));
+            names = subst (λ x. FirstInside file x left) (sym w') (names_closed file rs left i (omega (arith, was.below)) runs.names);
+            own = own-next;
+            so_far = next _ q;
           }
 
       -- a step that closed nothing
-      pub same_more : base ≡ None → state (paired rs' ps') left n None ≡ take_row file m (state (paired rs ps) left n None) e → rs' ≡ close_row base rs → Running file m rs0 ps0 left more rs' ps' n base (k + 1)
+      pub same_more : base ≡ None → state (paired rs' ps') left n None ≡ take_row file m (state (paired rs ps) left n None) (entry row p) → rs' ≡ close_row base rs → Running file m left end all rs' ps' n base more acts'
       same_more is q w =
           let w' : rs' ≡ rs = w ∙ ap (λ o. close_row o rs) is in
           record {
-            low = run'.low;
-            high = omega (arith, run'.high);
-            based = subst (λ x. Based x left base) (sym w') run'.based;
-            names = subst (λ x. (j : ℕ) → j < left → Inside file (at x j)) (sym w') run'.names;
-            so_far = after_more (state (paired rs ps) left n None) _ more k e here read q ∙ run'.so_far;
+            low = runs.low;
+            high = high_next n (omega arith);
+            beside = sizes;
+            based = subst (λ x. Based x left base) (sym w') runs.based;
+            names = subst (λ x. FirstInside file x left) (sym w') runs.names;
+            own = own-next;
+            so_far = next _ q;
           }
 
       -- the loop ends with a mismatch
-      pub stopped_more : (p : ℕ) → state (paired rs' ps') left n (Some p) ≡ take_row file m (state (paired rs ps) left n None) e → state (paired rs' ps') left n (Some p) ≡ run file m (take left (paired rs0 ps0)) more
-      stopped_more p q =
-          sym (after-stopped (state (paired rs' ps') left n (Some p)) (drop (k + 1) more) p refl)
-          ∙ after_more (state (paired rs ps) left n None) _ more k e here read q
-          ∙ run'.so_far
+      pub stopped_more : {stop : ℕ} → state (paired rs' ps') left n (Some stop) ≡ take_row file m (state (paired rs ps) left n None) (entry row p) → state (paired rs' ps') left n (Some stop) ≡ all
+      stopped_more {stop} q = sym (after-stopped file m (state (paired rs' ps') left n (Some stop)) (paired more acts') stop refl) ∙ next _ q
+
+  -- the loop ends where no row is left
+  pub running-all : {left end : ℕ} {all : Taken P} {rs : List Row} {ps : List P} {n : ℕ} {base : Option ℕ} (rest : List Row) {acts : List P} → Running file m left end all rs ps n base rest acts → length rest ≡ 0 → state (paired rs ps) left n None ≡ all
+  running-all {left} {end} {all} {rs} {ps} {n} [] r h = sym (after-none file m (state (paired rs ps) left n None)) ∙ r.so_far
+  running-all (x ∷ xs) r h = absurd (omega arith)

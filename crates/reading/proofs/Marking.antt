@@ -4,7 +4,7 @@ use Rattle.std.proofs.lemmas.List.{length-take, length-drop, drop-drop, drop-tak
 use Rattle.tags.specs.Bytes.{mark}
 use Rattle.tags.specs.Marks.{marks, part, marks_of, first_or}
 use Rattle.machine.specs.Model.{Model}
-use Rattle.rows.specs.declared.row.Row.{Row}
+use Rattle.rows.specs.declared.lists.Lists.{Lists}
 use Rattle.rows.specs.declared.row.PieceFault.{PieceFault}
 use Rattle.reading.specs.declared.reading.Reader.{Reader}
 use Rattle.rows.specs.Pieces.{Content, put}
@@ -80,11 +80,11 @@ no_marks : (file : List ℕ) (from to : ℕ) → to ≤ from → marks_of file f
 no_marks file from to h = let e : to - from ≡ 0 = omega arith in ap (λ n. marks (take n (drop from file)) from) e
 
 -- a loop that reads: the stretch from mark on is the next
-pub record Going {P Q : Type 0} (file : List ℕ) (m : Model P Q) (from to : ℕ) (rs : List Row) (ps : List P) (r : Reader) (mark next : ℕ) : Type 0 where
-  pub ready : Ready file rs r
+pub record Going {P Q : Type 0} (file : List ℕ) (m : Model P Q) (from to : ℕ) (ls : Lists P) (r : Reader) (mark next : ℕ) : Type 0 where
+  pub ready : Ready file ls.rows.now r
   pub found : next ≡ first_or to (marks_of file (mark + 1) to)
   pub few : r.rows + length (marks_of file (mark + 1) to) ≤ length (marks_of file from to) - 1
-  pub whole : eval_from file m (so_far rs ps r) (pairs (mark ∷ marks_of file (mark + 1) to)) ≡ content file m from to
+  pub whole : eval_from file m (so_far ls r) (pairs (mark ∷ marks_of file (mark + 1) to)) ≡ content file m from to
 
 module _ {P Q : Type 0} (file : List ℕ) (m : Model P Q) (from to : ℕ) where
   start : (mark : ℕ) → ((marks_of file from to ≡ []) × (mark ≡ to)) ⊎ Next file from to mark → (pairs (mark ∷ marks_of file (mark + 1) to) ≡ pairs (marks_of file from to)) × (length (marks_of file (mark + 1) to) ≤ length (marks_of file from to) - 1)
@@ -93,37 +93,34 @@ module _ {P Q : Type 0} (file : List ℕ) (m : Model P Q) (from to : ℕ) where
       (ap (λ ms. pairs (mark ∷ ms)) e ∙ ap pairs (sym n.0), let a = ap length e in omega arith)
   start mark (inr n) = (ap pairs (sym n.all), let a = ap length n.all in omega arith)
 
-  pub going-none : (rs : List Row) (ps : List P) (r : Reader) (mark next : ℕ) → Ready file rs r → r.rows ≡ 0 → mark ≡ first_or to (marks_of file from to) → next ≡ first_or to (marks_of file (mark + 1) to) → Going file m from to rs ps r mark next
-  going-none rs ps r mark next ready none e f =
+  pub going-none : (ls : Lists P) (r : Reader) (mark next : ℕ) → Ready file ls.rows.now r → r.rows ≡ 0 → mark ≡ first_or to (marks_of file from to) → next ≡ first_or to (marks_of file (mark + 1) to) → Going file m from to ls r mark next
+  going-none ls r mark next ready none e f =
       let s = start mark (found file from to mark e) in
       record {
         ready = ready;
         found = f;
         few = omega (arith, s.1);
-        whole = ap (eval_from file m (so_far rs ps r)) s.0 ∙ ap (λ n. eval_from file m (record { rows = take n (paired rs ps); fault = None }) (pairs (marks_of file from to))) none;
+        whole = ap (eval_from file m (so_far ls r)) s.0 ∙ ap (λ n. eval_from file m (record { rows = take n (paired ls.rows.now ls.actions.now); fault = None }) (pairs (marks_of file from to))) none;
       }
 
-  module _ (rs : List Row) (ps : List P) (r : Reader) (mark next : ℕ) (going : Going file m from to rs ps r mark next) where
-    pub going-all : to ≤ next → ◌≡◌ {A = Content P} (so_far rs ps r) (content file m from to)
-    going-all h = sym (ap (λ ms. eval_from file m (so_far rs ps r) (pairs (mark ∷ ms))) (found_none file (mark + 1) to next going.found h)) ∙ going.whole
+  module _ (ls : Lists P) (r : Reader) (mark next : ℕ) (going : Going file m from to ls r mark next) where
+    pub going-all : to ≤ next → ◌≡◌ {A = Content P} (so_far ls r) (content file m from to)
+    going-all h = sym (ap (λ ms. eval_from file m (so_far ls r) (pairs (mark ∷ ms))) (found_none file (mark + 1) to next going.found h)) ∙ going.whole
 
-    module _ (more : next < to) (c : Content P) (is : c ≡ put file m (so_far rs ps r) (one file m (mark, next))) where
+    module _ (more : next < to) (c : Content P) (is : c ≡ put file m (so_far ls r) (one file m (mark, next))) where
       after : eval_from file m c (pairs (next ∷ marks_of file (next + 1) to)) ≡ content file m from to
       after =
           ap (λ x. eval_from file m x (pairs (next ∷ marks_of file (next + 1) to))) is
-          ∙ sym (ap (λ ms. eval_from file m (so_far rs ps r) (pairs (mark ∷ ms))) (found_next file (mark + 1) to next going.found more).all)
+          ∙ sym (ap (λ ms. eval_from file m (so_far ls r) (pairs (mark ∷ ms))) (found_next file (mark + 1) to next going.found more).all)
           ∙ going.whole
 
       pub going-fault : (f : PieceFault) → c.fault ≡ Some f → c ≡ content file m from to
       going-fault f e = sym (eval-fault file m c (pairs (next ∷ marks_of file (next + 1) to)) f e) ∙ after
 
-    pub going_more : (rs' : List Row) (ps' : List P) (r' : Reader) (next' : ℕ) → next < to → so_far rs' ps' r' ≡ put file m (so_far rs ps r) (one file m (mark, next)) → Ready file rs' r' → r'.rows ≤ r.rows + 1 → next' ≡ first_or to (marks_of file (next + 1) to) → Going file m from to rs' ps' r' next next'
-    going_more rs' ps' r' next' h e ready few f = record {
+    pub going_more : (ls' : Lists P) (r' : Reader) (next' : ℕ) → next < to → so_far ls' r' ≡ put file m (so_far ls r) (one file m (mark, next)) → Ready file ls'.rows.now r' → r'.rows ≤ r.rows + 1 → next' ≡ first_or to (marks_of file (next + 1) to) → Going file m from to ls' r' next next'
+    going_more ls' r' next' h e ready few f = record {
       ready = ready;
       found = f;
       few = let n = ap length (found_next file (mark + 1) to next going.found h).all in omega (arith, going.few);
-      whole = after h (so_far rs' ps' r') e;
+      whole = after h (so_far ls' r') e;
     }
-
-    pub going-room : next < to → r.rows + 1 < length (marks_of file from to)
-    going-room h = let n = ap length (found_next file (mark + 1) to next going.found h).all in omega (arith, going.few)

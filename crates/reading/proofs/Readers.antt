@@ -1,17 +1,21 @@
 -- What a reader knows after one more row.
-use Rattle.std.proofs.Common.{◌≡◌, ℕ, ◌+◌, ◌<◌, ◌≤◌, Bool, true, List, [], ◌∷◌, ◌++◌, length, set, Some, None, Option, sym, refl, ap, ◌∙◌, subst, ⊎_elim, arith}
+use Rattle.std.proofs.Common.{◌≡◌, ℕ, ◌+◌, ◌<◌, ◌≤◌, Bool, true, List, [], ◌∷◌, ◌++◌, length, take, set, Some, None, Option, Result, sym, refl, ap, ◌∙◌, subst, ⊎_elim, arith}
 use Rattle.std.proofs.lemmas.List.{get_or-set_same}
 use Rattle.std.proofs.lemmas.Bool.{cases_eq}
-use Rattle.rows.specs.declared.row.RowKind.{RowKind}
-use Rattle.rows.specs.declared.row.RowKind.TheVariants.{Close, Open, Done}
+use Rattle.rows.specs.declared.row.RowKind.TheVariants.{Open}
 use Rattle.rows.specs.declared.row.Row.{Row}
 use Rattle.reading.specs.declared.opens.Opens.{Opens}
 use Rattle.reading.specs.declared.reading.Reader.{Reader}
-use Rattle.rows.specs.Pieces.{Inside, done}
-use Rattle.rows.specs.Places.{at, no_row, Based, close_row}
-use Rattle.reading.specs.Opens.{items, Sound, Chain, ChainAt}
-use Rattle.reading.specs.Reading.{Ready, Under, Opened, ClosableAt, Reclosed, ReclosedAt}
-use Rattle.rows.proofs.Bases.{none-open_set, based_set, based_wider, based_closed, names_set, names_closed}
+use Rattle.machine.specs.Model.{Model}
+use Rattle.rows.specs.declared.row.PieceFault.{PieceFault}
+use Rattle.rows.specs.declared.lists.Lists.{Lists}
+use Rattle.rows.specs.Pieces.{Content, Inside, done, seal, put, fault_after, take_row}
+use Rattle.rows.specs.Stretches.{lone}
+use Rattle.rows.specs.Places.{at, no_row, Based, paired, entry, state}
+use Rattle.reading.specs.Opens.{items, Chain, ChainAt}
+use Rattle.reading.specs.Reading.{so_far, fault_in, sealed, Ready, Under}
+use Rattle.rows.proofs.Bases.{none-open_set, based_set, based_wider, names_set}
+use Rattle.rows.proofs.Puts.{put_one}
 
 -- a chain of which the end is forgotten
 chain_front : (rows : List Row) (top : ℕ) (xs ys : List ℕ) (b c : Bool) → (c ≡ true → (b ≡ true) × (ys ≡ [])) → Chain rows top (xs ++ ys) b → Chain rows top xs c
@@ -49,71 +53,43 @@ module _ (rs : List Row) (n : ℕ) (row : Row) where
   chain-open o o' (Some i) b c u =
       subst (λ os. Chain (set rs n row) n os o'.complete) (sym u.items_is) (
         based_set rs n n row (Some i) (omega arith) b,
-        chain_front (set rs n row) i u.kept u.lost o.complete o'.complete u.whole (subst (λ os. Chain (set rs n row) i os o.complete) u.all (chain_set rs n i row (items o) o.complete (omega (arith, b.below)) c)),
+        chain_front (set rs n row) i u.kept u.lost o.complete o'.complete (λ q. u.whole.0 q) (subst (λ os. Chain (set rs n row) i os o.complete) u.all (chain_set rs n i row (items o) o.complete (omega (arith, b.below)) c)),
       )
 
-module _ (file : List ℕ) (rs : List Row) (was is : Reader) (row : Row) (room : was.rows < length rs) (inside : Inside file row) (ready : Ready file rs was) (grown : is.rows ≡ was.rows + 1) (sound : Sound is.opens) where
+-- a row was added
+module _ (file : List ℕ) (rs rs' : List Row) (was is : Reader) (row : Row) (room : was.rows < length rs) (ready : Ready file rs was) (inside : Inside file row) (rows : rs' ≡ set rs was.rows row) (grown : is.rows ≡ was.rows + 1) where
   abbrev n : ℕ
   n = was.rows
 
-  names : (k : ℕ) → k < is.rows → Inside file (at (set rs n row) k)
-  names k h = names_add file rs n row room inside ready.names k (omega arith)
+  names : (k : ℕ) → k < is.rows → Inside file (at rs' k)
+  names k h = subst (λ x. Inside file (at x k)) (sym rows) (names_add file rs n row room inside ready.names k (omega arith))
 
-  shut : (row.kind ≡ Open → ⊥) → is.base ≡ was.base → is.opens ≡ was.opens → Ready file (set rs n row) is
-  shut not e f = record {
-    sound = sound;
-    based = subst (λ x. Based (set rs n row) x is.base) (sym grown) (subst (Based (set rs n row) (n + 1)) (sym e) (based_add rs n row was.base room not ready.based));
-    chain = subst (ChainAt (set rs n row) is.base) (sym f) (subst (λ b. ChainAt (set rs n row) b was.opens) (sym e) (chain_same rs n row was.opens was.base ready.based ready.chain));
+  pub ready-shut : (row.kind ≡ Open → ⊥) → is.base ≡ was.base → is.opens ≡ was.opens → Ready file rs' is
+  ready-shut not e f = record {
+    based = rw (rows, grown, e) (based_add rs n row was.base room not ready.based);
+    chain = rw (rows, e, f) (chain_same rs n row was.opens was.base ready.based ready.chain);
     names = names;
   }
 
-  added : (k : RowKind) → row.kind ≡ k → Opened was is k → Ready file (set rs n row) is
-  added Close e q = shut (λ h. let z : ◌≡◌ {A = ℕ} 0 1 = cc in omega arith) q.0 q.1
-  added Done e q = shut (λ h. let z : ◌≡◌ {A = ℕ} 0 1 = cc in omega arith) q.0 q.1
-  added Open e q = record {
-    sound = sound;
-    based = subst (Based (set rs n row) is.rows) (sym q.0) (record { below = omega arith; is_open = ap (λ x. x.kind) (get_or-set_same rs n row no_row room) ∙ e; last = λ k lo hi x. absurd (omega arith) });
-    chain = subst (λ b. ChainAt (set rs n row) b is.opens) (sym q.0) (chain-open rs n row was.opens is.opens was.base ready.based ready.chain q.1);
+  pub ready-open : row.kind ≡ Open → is.base ≡ Some was.rows → Under was.opens is.opens was.base → Ready file rs' is
+  ready-open k e u = record {
+    based = rw (rows, e) (record { below = omega arith; is_open = ap (λ x. x.kind) (get_or-set_same rs n row no_row room) ∙ k; last = λ k lo hi x. absurd (omega arith) });
+    chain = rw (rows, e) (chain-open rs n row was.opens is.opens was.base ready.based ready.chain u);
     names = names;
   }
 
-  pub ready-added : (rs' : List Row) → Opened was is row.kind → rs' ≡ set rs n row → Ready file rs' is
-  ready-added rs' q e = subst (λ x. Ready file x is) (sym e) (added row.kind refl q)
+-- what stood below the base at i, once it is closed
+pub closed-chain : (rs rs' : List Row) (was : Reader) (i : ℕ) → ChainAt rs was.base was.opens → was.base ≡ Some i → rs' ≡ set rs i (done (at rs i)) → Chain rs' i (items was.opens) was.opens.complete
+closed-chain rs rs' was i chain base rows = rw rows (chain_set rs i i (done (at rs i)) (items was.opens) was.opens.complete (omega arith) (subst (λ b. ChainAt rs b was.opens) base chain))
 
--- the base was closed
-module _ (file : List ℕ) (rs rs' : List Row) (r : Reader) (room : r.rows < length rs) (ready : Ready file rs r) (long : length rs' ≡ length rs) where
-  closable : (base : Option ℕ) → Based rs r.rows base → ChainAt rs base r.opens → rs' ≡ close_row base rs → ClosableAt rs' r.opens base
-  closable None b c e = tt
-  closable (Some i) b c e = (
-    omega (arith, b.below),
-    subst (λ x. Chain x i (items r.opens) r.opens.complete) (sym e) (chain_set rs i i (done (at rs i)) (items r.opens) r.opens.complete (omega arith) c),
-  )
-
-  pub ready-closable : rs' ≡ close_row r.base rs → ClosableAt rs' r.opens r.base
-  ready-closable e = closable r.base ready.based ready.chain e
-
-  module _ (is : Reader) (same : is.rows ≡ r.rows) (sound : Sound is.opens) where
-    closed : (base : Option ℕ) → Based rs r.rows base → ChainAt rs base r.opens → rs' ≡ close_row base rs → ReclosedAt rs' base is.base r.opens is.opens → Ready file rs' is
-    closed None b c e q = record {
-      sound = sound;
-      based = subst (λ x. Based rs' x is.base) (sym same) (subst (Based rs' r.rows) (sym q.0) (subst (λ x. Based x r.rows None) (sym e) b));
-      chain = subst (λ x. ChainAt rs' x is.opens) (sym q.0) tt;
-      names = λ k h. subst (λ x. Inside file (at x k)) (sym e) (ready.names k (omega arith));
-    }
-    closed (Some i) b c e q = record {
-      sound = sound;
-      based = subst (λ x. Based rs' x is.base) (sym same) (subst (λ x. Based x r.rows is.base) (sym e) (based_closed rs r.rows i is.base b (omega arith) (subst (λ x. Based x i is.base) e q.0)));
-      chain = q.1;
-      names = λ k h. subst (λ x. Inside file (at x k)) (sym e) (names_closed file rs r.rows i (omega (arith, b.below)) ready.names k (omega arith));
-    }
-
-    pub ready-closed : rs' ≡ close_row r.base rs → Reclosed rs' r is → Ready file rs' is
-    ready-closed e q = closed r.base ready.based ready.chain e q
-
-pub ready_none : (file : List ℕ) (rs : List Row) (r : Reader) → r.rows ≡ 0 → r.base ≡ None → Sound r.opens → Ready file rs r
-ready_none file rs r e f sound = record {
-  sound = sound;
+pub ready_none : (file : List ℕ) (rs : List Row) (r : Reader) → r.rows ≡ 0 → r.base ≡ None → Ready file rs r
+ready_none file rs r e f = record {
   based = subst (λ b. Based rs r.rows b) (sym f) (λ k a b o. absurd (omega arith));
   chain = subst (λ b. ChainAt rs b r.opens) (sym f) tt;
   names = λ k h. absurd (omega arith);
 }
+
+-- a row was put after those read so far
+module _ {P Q : Type 0} (file : List ℕ) (m : Model P Q) (ls ls' : Lists P) (was is : Reader) (result : Result (Unit {0}) PieceFault) where
+  pub put-row : (n : ℕ) (stop : Option ℕ) (row : Row) (p : P) {y : Content P} → was.rows ≤ n → is.rows ≡ n → fault_in result ≡ fault_after stop None → lone row p ≡ y → state (paired ls'.rows.now ls'.actions.now) was.rows n stop ≡ take_row file m (state (paired ls.rows.now ls.actions.now) was.rows was.rows None) (entry row p) → sealed ls' is result ≡ put file m (so_far ls was) y
+  put-row n stop row p low e f g t = put_one file m _ _ was.rows n stop row p None _ _ refl low g t (ap (λ k. seal (take k (paired ls'.rows.now ls'.actions.now)) (fault_in result)) e ∙ ap (seal (take n (paired ls'.rows.now ls'.actions.now))) f)

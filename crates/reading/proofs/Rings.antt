@@ -4,21 +4,13 @@ use Rattle.std.proofs.lemmas.List.{get_or-set_same, get_or-set_other, append-nil
 use Rattle.std.proofs.lemmas.Bool.{cases_lt}
 use Rattle.std.proofs.lemmas.Bool.Decides.{nat_tests}
 use Rattle.reading.specs.declared.opens.Opens.{Opens}
-use Rattle.rows.specs.declared.row.RowKind.TheVariants.{Open}
 use Rattle.rows.specs.declared.row.Row.{Row}
-use Rattle.rows.specs.Places.{NoneOpen, BaseAt, at}
-use Rattle.reading.specs.Opens.{back, forth, ring, items, Sound, Pushed, Chain}
+use Rattle.rows.specs.Places.{NoneOpen, BaseAt}
+use Rattle.reading.specs.Opens.{back, forth, ring, items, Pushed, Chain}
 
 pub back-less : (t : ℕ) → 0 < t → t - 1 ≡ back t
 back-less zero h = absurd (omega arith)
 back-less (suc t) h = omega arith
-
-pub back_low : (t : ℕ) → t < 4096 → back t < 4096
-back_low zero h = omega arith
-back_low (suc t) h = omega arith
-
-pub forth-low : (t : ℕ) → t < 4096 → forth t < 4096
-forth-low t h = grind (arith, nat_tests)
 
 back-forth : (t : ℕ) → back (forth t) ≡ t
 back-forth t = grind (arith, nat_tests)
@@ -63,8 +55,8 @@ far_cell zero h = refl
 far_cell (suc n) h = let e = backs_low n 4095 (omega arith) in let f = back-less (backs n 4095) (omega arith) in omega arith
 
 -- one more at the far end, where the ring ends before cell 0
-pub ring-fill : (cells : List ℕ) (i n : ℕ) → n < 4096 → length cells ≡ 4096 → ring (set cells (4095 - n) i) 0 (n + 1) ≡ ring cells 0 n ++ (i ∷ [])
-ring-fill cells i n h size =
+filled : (cells : List ℕ) (i n : ℕ) → n < 4096 → length cells ≡ 4096 → ring (set cells (4095 - n) i) 0 (n + 1) ≡ ring cells 0 n ++ (i ∷ [])
+filled cells i n h size =
     let e : n + 1 ≡ suc n = omega arith in
     let here : get_or (set cells (4095 - n) i) (4095 - n) 0 ≡ i = get_or-set_same cells (4095 - n) i 0 (omega arith) in
     let rest : ring (set cells (4095 - n) i) 0 n ≡ ring cells 0 n = ring-set cells (4095 - n) i n 0 (λ x. omega arith) (λ x. omega arith) in
@@ -74,63 +66,46 @@ ring-fill cells i n h size =
     ∙ ap (λ x. ring (set cells (4095 - n) i) 0 n ++ (x ∷ [])) here
     ∙ ap (λ xs. xs ++ (i ∷ [])) rest
 
-pub ring-count : (cells : List ℕ) (t n m : ℕ) → n ≡ m → ring cells t n ≡ ring cells t m
-ring-count cells t n m e = ap (ring cells t) e
+pub ring-fill : (o : Opens) (i : ℕ) → o.top ≡ 0 → o.count < 4096 → ring (set o.cells (4095 - o.count) i) o.top (o.count + 1) ≡ items o ++ (i ∷ [])
+ring-fill o i e h = subst (λ t. ring (set o.cells (4095 - o.count) i) t (o.count + 1) ≡ ring o.cells t o.count ++ (i ∷ [])) (sym e) (filled o.cells i o.count h o.size)
 
-module _ (o : Opens) (i t' n' : ℕ) (sound : Sound o) (top : t' ≡ forth o.top) where
-  abbrev cells : List ℕ
-  cells = set o.cells o.top i
+-- the place i was pushed
+module _ (was is : Opens) (i : ℕ) (cells : is.cells ≡ set was.cells was.top i) (top : is.top ≡ forth was.top) where
+  pushed : (n : ℕ) → n < 4096 → is.count ≡ suc n → items is ≡ i ∷ ring was.cells was.top n
+  pushed n l e = ap (λ c. ring c is.top is.count) cells ∙ ap (λ t. ring (set was.cells was.top i) t is.count) top ∙ ap (ring (set was.cells was.top i) (forth was.top)) e ∙ ring-push was.cells was.top i n was.below was.size l
 
-  pub pushed_room : o.count < 4096 → n' ≡ o.count + 1 → Pushed o (record { cells = cells; top = t'; count = n'; complete = o.complete }) i
-  pushed_room l e = record {
-    kept = items o;
+  pub pushed_room : was.count < 4096 → is.count ≡ was.count + 1 → is.complete ≡ was.complete → Pushed was is i
+  pushed_room l e c = record {
+    kept = items was;
     lost = [];
-    all = sym (append-nil (items o));
-    items_is = ap (λ t. ring cells t n') top ∙ ring-count cells (forth o.top) n' (suc o.count) (omega arith) ∙ ring-push o.cells o.top i o.count sound.top sound.cells l;
-    whole = λ q. (q, refl);
+    all = sym (append-nil (items was));
+    items_is = pushed was.count l (omega arith);
+    whole = (λ q. (sym c ∙ q, refl), λ q. c ∙ q.0);
     fits = λ h. refl;
     one = omega arith;
   }
 
-  pub pushed-full : 4096 ≤ o.count → n' ≡ o.count → Pushed o (record { cells = cells; top = t'; count = n'; complete = false }) i
-  pushed-full l e = record {
-    kept = ring o.cells o.top 4095;
-    lost = get_or o.cells (back (backs 4095 o.top)) 0 ∷ [];
-    all = ring-count o.cells o.top o.count (suc 4095) (omega (arith, sound.count)) ∙ ring-end o.cells 4095 o.top;
-    items_is = ap (λ t. ring cells t n') top ∙ ring-count cells (forth o.top) n' (suc 4095) (omega (arith, sound.count)) ∙ ring-push o.cells o.top i 4095 sound.top sound.cells (omega arith);
-    whole = λ q. let z : ◌≡◌ {A = ℕ} 0 1 = cc in absurd (omega arith);
+  pub pushed-full : 4096 ≤ was.count → is.count ≡ was.count → is.complete ≡ false → Pushed was is i
+  pushed-full l e c = record {
+    kept = ring was.cells was.top 4095;
+    lost = get_or was.cells (back (backs 4095 was.top)) 0 ∷ [];
+    all = ap (ring was.cells was.top) (let n : was.count ≡ suc 4095 = omega (arith, was.few) in n) ∙ ring-end was.cells 4095 was.top;
+    items_is = pushed 4095 (omega arith) (omega (arith, was.few));
+    whole = (λ q. absurd cc, λ q. absurd (let z = ap length q.1 in omega arith));
     fits = λ h. absurd (omega (arith, h, l));
     one = omega arith;
   }
 
-pub ring-pop : (cells : List ℕ) (t n : ℕ) → 0 < n → ring cells t n ≡ get_or cells (back t) 0 ∷ ring cells (back t) (n - 1)
-ring-pop cells t zero h = absurd (omega arith)
-ring-pop cells t (suc n) h = let e : suc n - 1 ≡ n = omega arith in ap (λ k. get_or cells (back t) 0 ∷ ring cells (back t) k) (sym e)
-
--- the open rows below top and not below low stand at these places, innermost first
+-- the last open rows below top stand at these places, innermost first, and the last of them at low
 abbrev pub Links : List Row → ℕ → List ℕ → ℕ → Type 0
-Links rows top [] low = (low ≤ top) × NoneOpen rows low top
+Links rows top [] low = low ≡ top
 Links rows top (i ∷ is) low = BaseAt rows top i × Links rows i is low
 
-pub links_none : (rows : List Row) (top : ℕ) → Links rows top [] top
-links_none rows top = (omega arith, λ k a b o. absurd (omega arith))
+-- one more further down
+pub links_more : (rows : List Row) (top : ℕ) (is : List ℕ) (low i : ℕ) → Links rows top is low → BaseAt rows low i → Links rows top (is ++ (i ∷ [])) i
+links_more rows top [] low i l b = (subst (λ t. BaseAt rows t i) l b, refl)
+links_more rows top (j ∷ js) low i l b = (l.0, links_more rows j js low i l.1 b)
 
--- one row further down, which is not open
-pub links_past : (rows : List Row) (top : ℕ) (is : List ℕ) (low : ℕ) → 0 < low → ((at rows (low - 1)).kind ≡ Open → ⊥) → Links rows top is low → Links rows top is (low - 1)
-links_past rows top [] low h not l = (
-  omega (arith, l.0),
-  λ k a b o. ⊎_elim (λ e. let e' : k ≡ low - 1 = omega arith in not (subst (λ x. (at rows x).kind ≡ Open) e' o)) (λ e. l.1 k e b o) (cases_lt k low),
-)
-links_past rows top (i ∷ is) low h not l = (l.0, links_past rows i is low h not l.1)
-
--- one row further down, which is open
-pub links_more : (rows : List Row) (top : ℕ) (is : List ℕ) (low : ℕ) → 0 < low → (at rows (low - 1)).kind ≡ Open → Links rows top is low → Links rows top (is ++ ((low - 1) ∷ [])) (low - 1)
-links_more rows top [] low h is_open l = (
-  record { below = omega (arith, l.0); is_open = is_open; last = λ k a b o. l.1 k (omega arith) b o },
-  links_none rows (low - 1),
-)
-links_more rows top (i ∷ is) low h is_open l = (l.0, links_more rows i is low h is_open l.1)
-
-pub links_chain : (rows : List Row) (top : ℕ) (is : List ℕ) (low : ℕ) (b : Bool) → (b ≡ true → low ≡ 0) → Links rows top is low → Chain rows top is b
-links_chain rows top [] low b f l = λ e. subst (λ x. NoneOpen rows x top) (f e) l.1
+pub links_chain : (rows : List Row) (top : ℕ) (is : List ℕ) (low : ℕ) (b : Bool) → (b ≡ true → NoneOpen rows 0 low) → Links rows top is low → Chain rows top is b
+links_chain rows top [] low b f l = λ e. subst (NoneOpen rows 0) l (f e)
 links_chain rows top (i ∷ is) low b f l = (l.0, links_chain rows i is low b f l.1)

@@ -1,5 +1,5 @@
 -- The last open rows, by their places.
-use Rattle.std.specs.Prelude.{◌≡◌, ℕ, zero, suc, ◌+◌, ◌<◌, ◌≤◌, Bool, true, cond, List, [], ◌∷◌, ◌++◌, length, Some, None, Option, ◌==◌, slice_index}
+use Rattle.std.specs.Prelude.{◌≡◌, ◌↔◌, ℕ, zero, suc, ◌+◌, ◌<◌, ◌≤◌, Bool, true, cond, List, [], ◌∷◌, ◌++◌, length, Some, None, Option, ◌==◌, slice_index}
 use Rattle.reading.specs.declared.opens.Opens.{Opens}
 use Rattle.rows.specs.declared.row.Row.{Row}
 use Rattle.rows.specs.Places.{NoneOpen, BaseAt}
@@ -21,18 +21,14 @@ ring cells t (suc n) = slice_index cells (back t) ∷ ring cells (back t) n
 abbrev pub items : Opens → List ℕ
 items o = ring o.cells o.top o.count
 
-pub record Sound (o : Opens) : Type 0 where
-  pub count : o.count ≤ 4096
-  pub top : o.top < 4096
-  pub cells : length o.cells ≡ 4096
-
 -- one more in front, and perhaps some at the end forgotten
 pub record Pushed (was is : Opens) (i : ℕ) : Type 0 where
   pub kept : List ℕ
   pub lost : List ℕ
   pub all : items was ≡ kept ++ lost
   pub items_is : items is ≡ i ∷ kept
-  pub whole : is.complete ≡ true → (was.complete ≡ true) × (lost ≡ [])
+  -- complete as long as nothing was forgotten
+  pub whole : (is.complete ≡ true) ↔ ((was.complete ≡ true) × (lost ≡ []))
   -- only a full ring forgets, and only the outermost
   pub fits : was.count < 4096 → lost ≡ []
   pub one : length lost ≤ 1

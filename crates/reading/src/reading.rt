@@ -1,21 +1,20 @@
 //! The rows of a part of the file.
-ghost use Rattle.std.specs.Prelude.{◌≡◌, ◌+◌, ◌-◌, ◌<◌, ◌≤◌, length, take, None};
+ghost use Rattle.std.specs.Prelude.{◌≡◌, ◌+◌, ◌-◌, ◌<◌, ◌≤◌, length, take, Some, None};
 ghost use Rattle.tags.specs.Marks.{marks_of};
 ghost use Rattle.tags.specs.Reads.{kind_of, name_of};
-ghost use Rattle.rows.specs.Pieces.{Content, Inside, seal, put};
+ghost use Rattle.rows.specs.Pieces.{Content, Inside, put};
 ghost use Rattle.rows.specs.Stretches.{row_of, action_of, lone, one, content};
 ghost use Rattle.rows.specs.Places.{stored, paired};
-ghost use Rattle.reading.specs.Opens.{Sound};
-ghost use Rattle.reading.specs.Reading.{so_far, fault_in, Ready, Opened, Closable, Reclosed};
 ghost use Rattle.rows.specs.Lists.{RowRule, Leaves};
+ghost use Rattle.rows.specs.Same.{SameLists};
+ghost use Rattle.reading.specs.Reading.{so_far, sealed, Ready, Under};
 
 use crate::opens::Opens;
 use machine::Machine;
-use rows::keeping::keep_closes;
 use rows::part::Kept;
-use rows::putting::{Step, close_base, put_row};
+use rows::putting::add_entry;
 use rows::tagging::{own_plain, row_of};
-use rows::{PieceFault, Row, RowKind};
+use rows::{Lists, PieceFault, Row, RowKind, Source};
 use tags::{Tag, next_mark, read_tag};
 
 /// What was read so far: how many rows there are, where their base stands, and the open rows below it.
@@ -30,7 +29,6 @@ impl Reader {
     fn new() -> Reader
         ensures rows { result.rows ≡ 0 }
         ensures base { result.base ≡ None }
-        ensures sound { Sound result.opens }
     {
         Reader {
             rows: 0,
@@ -39,151 +37,140 @@ impl Reader {
         }
     }
 
-    /// A row was added.
-    fn added(&mut self, kind: RowKind)
-        requires room { self.old.rows < 18446744073709551615 }
-        requires sound { Sound self.old.opens }
+    /// The row at `n`, after those read so far, is open: it is the base from now on.
+    fn open(&mut self, n: usize)
+        ensures rows { self.new.rows ≡ self.old.rows }
+        ensures base { self.new.base ≡ Some n }
+        ensures under { Under self.old.opens self.new.opens self.old.base }
+    {
+        match self.base {
+            Some(i) => self.opens.push(i),
+            None => self.opens.clear(),
+        }
+        self.base = Some(n);
+    }
+
+    /// Adds a row that closes no base.
+    fn add<M: Machine>(
+        &mut self,
+        source: &Source<'_, M>,
+        lists: &mut Lists<'_, M::Plain>,
+        row: Row,
+        plain: &M::Plain,
+    )
+        requires room { self.old.rows < length lists.old.rows.now }
+        requires ready { Ready source.now.file.now lists.old.rows.now self.old }
+        requires own { Inside source.now.file.now row }
+        requires adds { row.kind ≡ RowKind.Close → self.old.base ≡ None }
+        ensures put { so_far lists.new self.new ≡ put source.now.file.now (stored (M.model source.now.machine.now)) (so_far lists.old self.old) (lone row plain.now) }
+        ensures ready { Ready source.now.file.now lists.new.rows.now self.new }
         ensures rows { self.new.rows ≡ self.old.rows + 1 }
-        ensures sound { Sound self.new.opens }
-        ensures opened { Opened self.old self.new kind }
+        ensures same { SameLists lists.old lists.new }
     {
         let n = self.rows;
+        add_entry(source.machine, lists, n, self.base, row, plain);
+        if let RowKind::Open = row.kind {
+            self.open(n);
+        }
         self.rows = n + 1;
-        if let RowKind::Open = kind {
-            match self.base {
-                Some(i) => self.opens.push(i),
-                None => self.opens.clear(),
-            }
-            self.base = Some(n);
-        }
     }
 
-    /// The base was closed.
-    fn closed(&mut self, rows: &[Row])
-        requires { Closable rows.now self.old }
+    /// Closes the base at `i` by the end tag `row`.
+    fn close<M: Machine>(
+        &mut self,
+        source: &Source<'_, M>,
+        lists: &mut Lists<'_, M::Plain>,
+        i: usize,
+        row: Row,
+    ) -> Result<(), PieceFault>
+        requires room { self.old.rows < length lists.old.rows.now }
+        requires ready { Ready source.now.file.now lists.old.rows.now self.old }
+        requires own { Inside source.now.file.now row }
+        requires closes { row.kind ≡ RowKind.Close }
+        requires base { self.old.base ≡ Some i }
+        ensures put { (p : M.Plain) → sealed lists.new self.new result ≡ put source.now.file.now (stored (M.model source.now.machine.now)) (so_far lists.old self.old) (lone row p) }
+        ensures ready { Ready source.now.file.now lists.new.rows.now self.new }
         ensures rows { self.new.rows ≡ self.old.rows }
-        ensures sound { Sound self.new.opens }
-        ensures closed { Reclosed rows.now self.old self.new }
+        ensures same { SameLists lists.old lists.new }
     {
-        if let Some(i) = self.base {
-            self.base = self.opens.next_base(rows, i);
+        lists.close_base(source.file, i, row)?;
+        self.base = self.opens.next_base(lists, i);
+        Ok(())
+    }
+
+    /// Puts the row of the tag at `mark` after those read so far. An end tag that closes the base needs no action.
+    fn put_tag<M: Machine>(
+        &mut self,
+        source: &Source<'_, M>,
+        lists: &mut Lists<'_, M::Plain>,
+        mark: usize,
+        tag: Tag<'_>,
+    ) -> Result<(), PieceFault>
+        requires room { self.old.rows < length lists.old.rows.now }
+        requires ready { Ready source.now.file.now lists.old.rows.now self.old }
+        requires own { Inside source.now.file.now (row_of mark (kind_of tag) (name_of tag)) }
+        ensures put { sealed lists.new self.new result ≡ put source.now.file.now (stored (M.model source.now.machine.now)) (so_far lists.old self.old) (lone (row_of mark (kind_of tag.entry) (name_of tag.entry)) ((M.model source.now.machine.now).plain (action_of (M.model source.now.machine.now) (kind_of tag.entry) (name_of tag.entry)))) }
+        ensures ready { Ready source.now.file.now lists.new.rows.now self.new }
+        ensures few { self.new.rows ≤ self.old.rows + 1 }
+        ensures same { SameLists lists.old lists.new }
+    {
+        let row = row_of(mark, tag);
+        match (row.kind, self.base) {
+            (RowKind::Close, Some(i)) => self.close(source, lists, i, row),
+            _ => {
+                let plain = own_plain(source.machine, tag);
+                self.add(source, lists, row, &plain);
+                Ok(())
+            }
         }
     }
-}
 
-/// Puts one row after those read so far.
-fn put_next<M: Machine>(
-    m: &M,
-    file: &[u8],
-    rows: &mut [Row],
-    actions: &mut [M::Plain],
-    reader: &mut Reader,
-    row: Row,
-    plain: &M::Plain,
-) -> Result<(), PieceFault>
-    requires sizes { length rows.old ≡ length actions.old }
-    requires room { reader.old.rows < length rows.old }
-    requires ready { Ready file.now rows.old reader.old }
-    requires own { Inside file.now row }
-    ensures put { seal (take reader.new.rows (paired rows.new actions.new)) (fault_in result) ≡ put file.now (stored (M.model m.now)) (so_far rows.old actions.old reader.old) (lone row plain.now) }
-    ensures ready { Ready file.now rows.new reader.new }
-    ensures few { reader.new.rows ≤ reader.old.rows + 1 }
-{
-    let n = reader.rows;
-    match put_row(m, file, rows, actions, n, n, reader.base, row, plain) {
-        Step::Added => reader.added(row.kind),
-        Step::Closed => reader.closed(rows),
-        Step::Mismatch => return Err(PieceFault::Mismatch {
-            place: row.place as usize,
-        }),
+    /// Reads the stretch from `mark` up to the next mark at `to`, and puts its row after those read so far.
+    fn read_stretch<M: Machine>(
+        &mut self,
+        source: &Source<'_, M>,
+        lists: &mut Lists<'_, M::Plain>,
+        mark: usize,
+        to: usize,
+    ) -> Result<(), PieceFault>
+        requires room { self.old.rows < length lists.old.rows.now }
+        requires ready { Ready source.now.file.now lists.old.rows.now self.old }
+        ensures put { sealed lists.new self.new result ≡ put source.now.file.now (stored (M.model source.now.machine.now)) (so_far lists.old self.old) (one source.now.file.now (stored (M.model source.now.machine.now)) (mark, to)) }
+        ensures ready { Ready source.now.file.now lists.new.rows.now self.new }
+        ensures few { self.new.rows ≤ self.old.rows + 1 }
+        ensures same { SameLists lists.old lists.new }
+    {
+        let tag = read_tag(source.file, mark, to)?;
+        self.put_tag(source, lists, mark, tag)
     }
-    Ok(())
-}
-
-/// Puts the row of the tag at `mark` after those read so far. An end tag that closes the base needs no action.
-fn put_tag<'a, M: Machine>(
-    m: &M,
-    file: &[u8],
-    rows: &mut [Row],
-    actions: &mut [M::Plain],
-    reader: &mut Reader,
-    mark: usize,
-    tag: Tag<'a>,
-) -> Result<(), PieceFault>
-    requires bytes { length file.now < 4294967296 }
-    requires sizes { length rows.old ≡ length actions.old }
-    requires room { reader.old.rows < length rows.old }
-    requires ready { Ready file.now rows.old reader.old }
-    requires own { Inside file.now (row_of mark (kind_of tag) (name_of tag)) }
-    ensures put { seal (take reader.new.rows (paired rows.new actions.new)) (fault_in result) ≡ put file.now (stored (M.model m.now)) (so_far rows.old actions.old reader.old) (lone (row_of mark (kind_of tag.entry) (name_of tag.entry)) ((M.model m.now).plain (action_of (M.model m.now) (kind_of tag.entry) (name_of tag.entry)))) }
-    ensures ready { Ready file.now rows.new reader.new }
-    ensures few { reader.new.rows ≤ reader.old.rows + 1 }
-{
-    let row = row_of(mark, tag);
-    if let (RowKind::Close, Some(i)) = (row.kind, reader.base) {
-        if !close_base(file, rows, i, row) {
-            return Err(PieceFault::Mismatch {
-                place: row.place as usize,
-            });
-        }
-        reader.closed(rows);
-        return Ok(());
-    }
-    let plain = own_plain(m, tag);
-    put_next(m, file, rows, actions, reader, row, &plain)
-}
-
-/// Reads the stretch from `mark` up to the next mark at `to`, and puts its row after those read so far.
-fn read_stretch<M: Machine>(
-    m: &M,
-    file: &[u8],
-    rows: &mut [Row],
-    actions: &mut [M::Plain],
-    reader: &mut Reader,
-    mark: usize,
-    to: usize,
-) -> Result<(), PieceFault>
-    requires bytes { length file.now < 4294967296 }
-    requires sizes { length rows.old ≡ length actions.old }
-    requires room { reader.old.rows < length rows.old }
-    requires ready { Ready file.now rows.old reader.old }
-    ensures put { seal (take reader.new.rows (paired rows.new actions.new)) (fault_in result) ≡ put file.now (stored (M.model m.now)) (so_far rows.old actions.old reader.old) (one file.now (stored (M.model m.now)) (mark, to)) }
-    ensures ready { Ready file.now rows.new reader.new }
-    ensures few { reader.new.rows ≤ reader.old.rows + 1 }
-{
-    let tag = read_tag(file, mark, to)?;
-    put_tag(m, file, rows, actions, reader, mark, tag)
 }
 
 /// Reads the rows of the bytes from `from` up to but without `to` into the beginning of the lists.
 fn read_rows<M: Machine>(
-    m: &M,
-    file: &[u8],
-    rows: &mut [Row],
-    actions: &mut [M::Plain],
+    source: &Source<'_, M>,
+    lists: &mut Lists<'_, M::Plain>,
     from: usize,
     to: usize,
 ) -> Kept
-    requires bytes { length file.now < 4294967296 }
-    requires within { to ≤ length file.now }
-    requires sizes { length rows.old ≡ length actions.old }
-    requires room { length (marks_of file.now from to) ≤ length rows.old }
-    ensures read { ◌≡◌ {A = Content _} (record { rows = take result.rows (paired rows.exit.now actions.new); fault = result.fault }) (content file.now (stored (M.model m.now)) from to) }
-    ensures few { result.rows ≤ length (marks_of file.now from to) - 1 }
+    requires within { to ≤ length source.now.file.now }
+    requires room { length (marks_of source.now.file.now from to) ≤ length lists.old.rows.now }
+    ensures read { ◌≡◌ {A = Content _} (record { rows = take result.rows (paired lists.new.rows.now lists.new.actions.now); fault = result.fault }) (content source.now.file.now (stored (M.model source.now.machine.now)) from to) }
+    ensures few { result.rows ≤ length (marks_of source.now.file.now from to) - 1 }
+    ensures same { SameLists lists.old lists.new }
 {
     let mut reader = Reader::new();
-    let mut mark = next_mark(file, from, to);
-    let mut next = next_mark(file, mark + 1, to);
+    let mut mark = next_mark(source.file, from, to);
+    let mut next = next_mark(source.file, mark + 1, to);
     while next < to {
-        if let Err(fault) = read_stretch(m, file, rows, actions, &mut reader, mark, next) {
-            let n = keep_closes(rows, actions, reader.rows);
+        if let Err(fault) = reader.read_stretch(source, lists, mark, next) {
+            let n = lists.keep_closes(reader.rows);
             return Kept {
                 rows: n,
                 fault: Some(fault),
             };
         }
         mark = next;
-        next = next_mark(file, mark + 1, to);
+        next = next_mark(source.file, mark + 1, to);
     }
     Kept {
         rows: reader.rows,
@@ -191,10 +178,27 @@ fn read_rows<M: Machine>(
     }
 }
 
+/// The same, where the lists lie apart.
+fn read_into<M: Machine>(
+    source: &Source<'_, M>,
+    rows: &mut [Row],
+    actions: &mut [M::Plain],
+    from: usize,
+    to: usize,
+) -> Kept
+    requires within { to ≤ length source.now.file.now }
+    requires beside { length rows.old ≡ length actions.old }
+    requires room { length (marks_of source.now.file.now from to) ≤ length rows.old }
+    ensures read { ◌≡◌ {A = Content _} (record { rows = take result.rows (paired rows.new actions.new); fault = result.fault }) (content source.now.file.now (stored (M.model source.now.machine.now)) from to) }
+    ensures few { result.rows ≤ length (marks_of source.now.file.now from to) - 1 }
+{
+    let mut lists = Lists { rows, actions };
+    read_rows(source, &mut lists, from, to)
+}
+
 /// Reads the bytes from `from` up to but without `to`, which have `marks` marks: the rows are written from `used` on.
 pub fn read<M: Machine>(
-    m: &M,
-    file: &[u8],
+    source: &Source<'_, M>,
     rows: &mut [Row],
     actions: &mut [M::Plain],
     used: usize,
@@ -202,18 +206,16 @@ pub fn read<M: Machine>(
     to: usize,
     marks: usize,
 ) -> Kept
-    requires bytes { length file.now < 4294967296 }
-    requires within { to ≤ length file.now }
-    requires marks { marks ≡ length (marks_of file.now from to) }
+    requires within { to ≤ length source.now.file.now }
+    requires marks { marks ≡ length (marks_of source.now.file.now from to) }
     requires room { (used + marks ≤ length rows.old) × (used + marks ≤ length actions.old) }
-    ensures left { Leaves used marks (content file.now (stored (M.model m.now)) from to) result rows.old rows.new actions.old actions.new }
+    ensures left { Leaves used marks (content source.now.file.now (stored (M.model source.now.machine.now)) from to) result rows.old rows.new actions.old actions.new }
     ensures few { result.rows ≤ marks - 1 }
-    ensures rule { RowRule file.now rows.new used result.rows }
+    ensures rule { RowRule source.now.file.now rows.new used result.rows }
 {
     let end = used + marks;
-    read_rows(
-        m,
-        file,
+    read_into(
+        source,
         &mut rows[used..end],
         &mut actions[used..end],
         from,

@@ -1,7 +1,7 @@
 -- What stands in the lists after a content was written into them.
-use Rattle.std.proofs.Common.{◌≡◌, ℕ, ◌+◌, ◌-◌, ◌<◌, ◌≤◌, List, [], ◌∷◌, ◌++◌, map, length, take, drop, sym, refl, ap, ◌∙◌, subst, append_assoc, arith}
+use Rattle.std.proofs.Common.{◌≡◌, ℕ, ◌+◌, ◌-◌, ◌<◌, ◌≤◌, List, [], ◌∷◌, ◌++◌, map, length, take, drop, sym, refl, ap, ◌∙◌, subst, arith}
 use borrow.Rule.Slice.PartMut.{put_mid}
-use Rattle.std.proofs.lemmas.List.{length-take-le, length-drop, length-append, take-append-drop, drop-drop, get_or_append_left, get_or-append-add}
+use Rattle.std.proofs.lemmas.List.{length-take-le, length-append, take-append-drop, drop-drop, get_or_append_left, get_or-append-add}
 use Rattle.rows.specs.declared.row.Row.{Row}
 use Rattle.rows.specs.declared.part.Kept.{Kept}
 use Rattle.rows.specs.Pieces.{Content, Inside}
@@ -19,13 +19,6 @@ written old ys made from marks n size h e =
       fits = omega (arith, sym (length-append made (drop n ys)) ∙ long);
       is = sym (ap (λ k. take from old ++ ((made ++ drop n ys) ++ drop (from + k) old)) long ∙ ap (λ x. take from old ++ (x ++ drop (from + marks) old)) whole);
     }
-
--- the same where the beginning of the list was written as a whole, and what lies before the place is as it was
-pub written_front : {X : Type 0} (old ys made : List X) (from marks n : ℕ) → length ys ≡ from + marks → n ≤ marks → take from ys ≡ take from old → take n (drop from ys) ≡ made → Written from marks made old (ys ++ drop (from + marks) old)
-written_front old ys made from marks n size h e f =
-    subst (Written from marks made old)
-    (sym (append_assoc (take from old) (drop from ys) (drop (from + marks) old)) ∙ ap (λ x. x ++ drop (from + marks) old) (ap (λ x. x ++ drop from ys) (sym e) ∙ take-append-drop from ys))
-    (written old (drop from ys) made from marks n (let w = length-drop from ys in omega arith) h f)
 
 module _ {P : Type 0} where
   rows-paired : (rs : List Row) (ps : List P) → length rs ≡ length ps → map (λ e. e.row) (paired rs ps) ≡ rs
@@ -54,9 +47,6 @@ module _ {P : Type 0} where
 
     pub actions_are : take k.rows ps ≡ actions_of c
     actions_are = sym (actions-paired (take k.rows rs) (take k.rows ps) same) ∙ ap (map (λ e. e.act)) (take-paired k.rows rs ps) ∙ ap actions_of is
-
-pub rule_front : (file : List ℕ) (ys zs : List Row) (from n : ℕ) → from + n ≤ length ys → RowRule file ys from n → RowRule file (ys ++ zs) from n
-rule_front file ys zs from n h f k l = subst (Inside file) (sym (get_or_append_left ys zs no_row (from + k) (omega arith))) (f k l)
 
 -- the list after its part from one place to another was written
 pub mid_is : {X : Type 0} (old ys : List X) (from marks : ℕ) → put_mid from (from + marks - from) old ys ≡ take from old ++ (ys ++ drop (from + marks) old)

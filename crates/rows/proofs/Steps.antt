@@ -1,5 +1,5 @@
 -- One row put after others.
-use Rattle.std.proofs.Common.{◌≡◌, ℕ, ◌+◌, ◌-◌, ◌<◌, ◌≤◌, true, false, List, [], ◌∷◌, ◌++◌, length, get_or, take, drop, set, Some, None, sym, refl, ap, ◌∙◌, arith}
+use Rattle.std.proofs.Common.{◌≡◌, ℕ, ◌+◌, ◌-◌, ◌<◌, ◌≤◌, true, false, List, [], ◌∷◌, ◌++◌, length, get_or, take, drop, set, Some, None, Option, sym, refl, ap, ◌∙◌, arith}
 use Rattle.std.specs.Str.{bytes_eq}
 use Rattle.std.proofs.lemmas.List.{take_more_set, take-set-le, drop-append-le, drop-set-lt, length-take-le}
 use Rattle.std.proofs.lemmas.Slice.{between_is}
@@ -7,13 +7,13 @@ use Rattle.rows.specs.declared.row.RowKind.TheVariants.{Close}
 use Rattle.rows.specs.declared.row.Row.{Row}
 use Rattle.machine.specs.Model.{Model}
 use Rattle.rows.specs.Pieces.{Entry, name, base, done, close_last, Taken, take_row}
-use Rattle.rows.specs.Places.{paired, stored, at, NoneOpen, BaseAt, entry, state}
+use Rattle.rows.specs.Places.{paired, at, NoneOpen, BaseAt, Based, entry, state, under_at}
 use Rattle.rows.proofs.Pairs.{length-paired, set-paired, set-row-paired, base-none, base-at, close_at}
 
 -- two plain forms' actions, one after the other, in plain form
-pub stored-then : {A P : Type 0} (m : Model A P) (p q r : P) → r ≡ m.plain (m.then (m.back p) (m.back q)) → r ≡ (stored m).then p q
-unfolding stored
-stored-then m p q r e = e
+-- the state of other lists that are equal
+pub state-of : {P : Type 0} {rs rs' : List Row} {ps ps' : List P} {t : Taken P} (left n : ℕ) (stop : Option ℕ) → rs' ≡ rs → ps' ≡ ps → state (paired rs ps) left n stop ≡ t → state (paired rs' ps') left n stop ≡ t
+state-of left n stop r p e = cc
 
 abbrev pushed : {P : Type 0} → Taken P → Entry P → Taken P
 pushed t e = record { left = t.left; added = t.added ++ (e ∷ []); stop = None }
@@ -42,24 +42,28 @@ module _ {P Q : Type 0} (file : List ℕ) (m : Model P Q) where
     abbrev z : List (Entry P)
     z = paired rs ps
 
-    pub push_step : (p q : P) → q ≡ p → state (paired (set rs n row) (set ps n q)) left (n + 1) None ≡ pushed (state z left n None) (entry row p)
+    push_step : (p q : P) → q ≡ p → state (paired (set rs n row) (set ps n q)) left (n + 1) None ≡ pushed (state z left n None) (entry row p)
     push_step p q e =
         ap (λ x. state x left (n + 1) None) (set-paired rs ps n row q)
         ∙ state-push z left n (entry row q) (let w = length-paired rs ps sizes in omega arith) within
         ∙ ap (λ a. pushed (state z left n None) (record { row = row; act = a })) e
 
-    pub none-step : (p : P) → NoneOpen rs 0 left → state (paired (set rs n row) (set ps n p)) left (n + 1) None ≡ take_row file m (state z left n None) (entry row p)
+    none-step : (p : P) → NoneOpen rs 0 left → state (paired (set rs n row) (set ps n p)) left (n + 1) None ≡ take_row file m (state z left n None) (entry row p)
     none-step p none =
         push_step p p refl ∙ sym (row-none (state z left n None) (entry row p) refl (base-none rs ps left sizes (omega arith) none))
 
     module _ (i : ℕ) (at_i : BaseAt rs left i) where
-      pub under-step : (p q r : P) → (row.kind ≡ Close → ⊥) → q ≡ m.then (get_or ps i r) p → state (paired (set rs n row) (set ps n q)) left (n + 1) None ≡ take_row file m (state z left n None) (entry row p)
+      under-step : (p q r : P) → (row.kind ≡ Close → ⊥) → q ≡ m.then (get_or ps i r) p → state (paired (set rs n row) (set ps n q)) left (n + 1) None ≡ take_row file m (state z left n None) (entry row p)
       under-step p q r k e =
-          ap (λ x. state x left (n + 1) None) (set-paired rs ps n row q)
-          ∙ state-push z left n (entry row q) (let w = length-paired rs ps sizes in omega arith) within
-          ∙ ap (λ a. pushed (state z left n None) (record { row = row; act = a })) e
+          push_step (m.then (get_or ps i r) p) q e
           ∙ sym (row_under (state z left n None) (entry row p) (entry (at rs i) (get_or ps i r)) refl (base-at rs ps left i r sizes (omega arith) at_i) k)
 
+    -- a row that closes no base was added
+    pub add-step : (base : Option ℕ) (p : P) → Based rs left base → (row.kind ≡ Close → base ≡ None) → state (paired (set rs n row) (set ps n (under_at m ps base p))) left (n + 1) None ≡ take_row file m (state z left n None) (entry row p)
+    add-step None p b f = none-step p b
+    add-step (Some i) p b f = under-step i b p (m.then (get_or ps i p) p) p (λ k. absurd (let e = f k in cc)) refl
+
+    module _ (i : ℕ) (at_i : BaseAt rs left i) where
       pub close-step : (p : P) → row.kind ≡ Close → bytes_eq (name file (at rs i)) (name file row) ≡ true → state (paired (set rs i (done (at rs i))) ps) left n None ≡ take_row file m (state z left n None) (entry row p)
       close-step p k q =
           let new = paired (set rs i (done (at rs i))) ps in

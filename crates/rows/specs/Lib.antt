@@ -3,3 +3,4 @@ pub mod Stretches
 pub mod Places
 pub mod Made
 pub mod Lists
+pub mod Same

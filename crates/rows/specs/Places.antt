@@ -43,6 +43,11 @@ Based rows n (Some i) = BaseAt rows n i
 abbrev pub entry : {P : Type 0} → Row → P → Entry P
 entry r p = record { row = r; act = p }
 
+-- a plain form as a row adds it under the base at a place, with that one's action before its own
+abbrev pub under_at : {P Q : Type 0} → Model P Q → List P → Option ℕ → P → P
+under_at m ps None p = p
+under_at m ps (Some i) p = m.then (slice_index_or ps i p) p
+
 -- rows and plain forms in two lists: each row with the plain form at its place
 abbrev pub paired : {P : Type 0} → List Row → List P → List (Entry P)
 paired [] ps = []

@@ -2,7 +2,7 @@
 
 #![tactic(auto)]
 
-pub mod keeping;
+pub mod lists;
 pub mod names;
 pub mod part;
 pub mod places;
@@ -10,4 +10,6 @@ pub mod putting;
 pub mod row;
 pub mod tagging;
 
+pub use lists::{Entries, Lists};
 pub use row::{PieceFault, Row, RowKind};
+pub use tagging::Source;

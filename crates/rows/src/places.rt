@@ -9,12 +9,7 @@ pub fn last_open(rows: &[Row], end: usize) -> Option<usize>
     requires { end ≤ length rows.now }
     ensures { Based rows.now end result }
 {
-    let mut i = end;
-    while i > 0 {
-        i -= 1;
-        if let RowKind::Open = rows[i].kind {
-            return Some(i);
-        }
-    }
-    None
+    rows[..end]
+        .iter()
+        .rposition(|row| row.kind == RowKind::Open)
 }

@@ -1,29 +1,25 @@
 //! Rows, and the fault of a piece.
 ghost use Rattle.std.specs.Prelude.{◌≡◌};
 ghost use Rattle.rows.specs.Pieces.{kind_number, fault_number};
-ghost use Rattle.rows.specs.declared.row.PieceFault.TheVariants.{BadTag};
+ghost use Rattle.rows.specs.declared.row.PieceFault.TheVariants.{BadTag, Mismatch};
 
 use tags::TagFault;
 
 #[derive(Clone, Copy, Debug, PartialEq, Eq)]
 pub enum RowKind {
     /// An end tag whose start lies before the piece.
-    Close,
+    Close = 1,
     /// A start tag still open.
-    Open,
+    Open = 2,
     /// A closed start tag, or an empty tag.
-    Done,
+    Done = 3,
 }
 
 impl RowKind {
     pub fn number(self) -> u8
         ensures { result ≡ kind_number self }
     {
-        match self {
-            RowKind::Close => 1,
-            RowKind::Open => 2,
-            RowKind::Done => 3,
-        }
+        self as u8
     }
 }
 
@@ -33,6 +29,17 @@ pub struct Row {
     pub kind: RowKind,
     pub place: u32,
     pub name_len: u32,
+}
+
+impl Row {
+    /// The fault of an end tag whose name is not that of the element it would close.
+    pub fn mismatch(self) -> PieceFault
+        ensures { result ≡ Mismatch self.place }
+    {
+        PieceFault::Mismatch {
+            place: self.place as usize,
+        }
+    }
 }
 
 /// What is wrong with a piece, whatever stands around it.

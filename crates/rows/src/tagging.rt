@@ -10,10 +10,10 @@ use crate::row::{PieceFault, Row, RowKind};
 use machine::Machine;
 use tags::{Tag, TagKind, read_tag};
 
-impl RowKind {
-    fn of(kind: TagKind) -> RowKind
-        ensures { result ≡ row_kind kind }
-    {
+impl From<TagKind> for RowKind {
+    ghost from_gives = { λ kind r. r ≡ row_kind kind };
+
+    fn from(kind: TagKind) -> RowKind {
         match kind {
             TagKind::Start => RowKind::Open,
             TagKind::Empty => RowKind::Done,
@@ -23,19 +23,19 @@ impl RowKind {
 }
 
 /// The row of the tag at `mark`.
-pub fn row_of<'a>(mark: usize, tag: Tag<'a>) -> Row
+pub fn row_of(mark: usize, tag: Tag<'_>) -> Row
     requires { mark + length (name_of tag) < 4294967296 }
     ensures { result ≡ row_of mark (kind_of tag.entry) (name_of tag.entry) }
 {
     Row {
-        kind: RowKind::of(tag.kind()),
+        kind: RowKind::from(tag.kind()),
         place: mark as u32,
         name_len: tag.name().len() as u32,
     }
 }
 
 /// The plain form of a tag's own action.
-pub fn own_plain<'a, M: Machine>(m: &M, tag: Tag<'a>) -> M::Plain
+pub fn own_plain<M: Machine>(m: &M, tag: Tag<'_>) -> M::Plain
     ensures { result ≡ (M.model m.now).plain (action_of (M.model m.now) (kind_of tag.entry) (name_of tag.entry)) }
 {
     let action = match tag {
@@ -45,17 +45,21 @@ pub fn own_plain<'a, M: Machine>(m: &M, tag: Tag<'a>) -> M::Plain
     m.plain(&action)
 }
 
-/// The row of the tag from `mark` up to but without `to`, with its action's plain form, or what is wrong with the tag.
-pub fn tag_row<M: Machine>(
-    m: &M,
-    file: &[u8],
-    mark: usize,
-    to: usize,
-) -> Result<(Row, M::Plain), PieceFault>
-    requires { length file.now < 4294967296 }
-    ensures made { content_of result ≡ one file.now (stored (M.model m.now)) (mark, to) }
-    ensures inside { IfOk result (λ t. Inside file.now t.0) }
-{
-    let tag = read_tag(file, mark, to)?;
-    Ok((row_of(mark, tag), own_plain(m, tag)))
+/// What rows are made from: a machine, and a file each of whose places fits a row.
+#[derive(Drop)]
+pub struct Source<'a, M: Machine> {
+    pub machine: &'a M,
+    pub file: &'a [u8],
+    ghost short: { length file.now < 4294967296 },
+}
+
+impl<'a, M: Machine> Source<'a, M> {
+    /// The row of the tag from `mark` up to but without `to`, with its action's plain form, or what is wrong with the tag.
+    pub fn tag_row(&self, mark: usize, to: usize) -> Result<(Row, M::Plain), PieceFault>
+        ensures made { content_of result ≡ one self.now.file.now (stored (M.model self.now.machine.now)) (mark, to) }
+        ensures inside { IfOk result (λ t. Inside self.now.file.now t.0) }
+    {
+        let tag = read_tag(self.file, mark, to)?;
+        Ok((row_of(mark, tag), own_plain(self.machine, tag)))
+    }
 }

@@ -42,10 +42,8 @@ pub fn run<M: Machine>(
     ensures { RunSays file.now (M.model m.now) (lent job.old rows.old actions.old matches.old steps.old) result (lent job.new rows.new actions.new matches.new steps.new) }
 {
     job.open(file.len())?;
-    for i in 0..steps.len() {
-        let call = steps[i].call;
-        let reply = make(m, job, file, rows, actions, matches, call);
-        steps[i] = Step { call, reply };
+    for step in steps.iter_mut() {
+        step.reply = make(m, job, file, rows, actions, matches, step.call);
     }
     Ok(())
 }

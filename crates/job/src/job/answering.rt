@@ -1,42 +1,38 @@
 //! What a piece over the whole file answers.
-ghost use Rattle.std.specs.Prelude.{◌≡◌, ◌+◌, ◌<◌, ◌≤◌, length};
+ghost use Rattle.std.specs.Prelude.{◌≤◌, length};
 ghost use Rattle.rows.specs.Stretches.{last_put};
-ghost use Rattle.rows.specs.Places.{stored};
-ghost use Rattle.rows.specs.Lists.{held, ends_of, RowRule};
+ghost use Rattle.rows.specs.Places.{stored, paired};
+ghost use Rattle.rows.specs.Lists.{ends_of};
 ghost use Rattle.answers.specs.Finish.{finish};
+ghost use Rattle.finishing.specs.Ends.{AllInside};
 ghost use Rattle.job.specs.State.{AnswerSays};
 
 use crate::answer::Answer;
 use answers::Match;
 use finishing::{count_answer, ending, write_answer};
 use machine::{Machine, Refusal};
-use rows::Row;
 use rows::part::Part;
+use rows::{Entries, Source};
 
 /// The file's fault, or the number of its matches, which are written from the match list's start.
 pub(super) fn answer<M: Machine>(
-    m: &M,
-    file: &[u8],
-    rows: &[Row],
-    actions: &[M::Plain],
-    matches: &mut [Match],
+    source: &Source<'_, M>,
+    entries: &Entries<'_, M::Plain>,
     part: Part,
+    matches: &mut [Match],
 ) -> Result<Answer, Refusal>
-    requires bytes { length file.now < 4294967296 }
-    requires sizes { length rows.now ≡ length actions.now }
-    requires within { part.at + part.kept.rows ≤ length rows.now }
-    requires rule { RowRule file.now rows.now part.at part.kept.rows }
-    requires few { part.kept.rows ≤ 4294967296 }
-    ensures { AnswerSays (finish (stored (M.model m.now)) (last_put file.now (stored (M.model m.now)) (ends_of part) (held rows.now actions.now part))) matches.old result matches.new }
+    requires rule { AllInside source.now.file.now entries.now.rows.now }
+    requires few { length entries.now.rows.now ≤ 4294967296 }
+    ensures { AnswerSays (finish (stored (M.model source.now.machine.now)) (last_put source.now.file.now (stored (M.model source.now.machine.now)) (ends_of part) (record { rows = paired entries.now.rows.now entries.now.actions.now; fault = part.kept.fault }))) matches.old result matches.new }
 {
-    let more = match ending(m, file, rows, actions, part) {
+    let more = match ending(source, entries, part) {
         Ok(more) => more,
         Err(fault) => return Ok(Answer::Fault(fault)),
     };
-    let count = count_answer(m, rows, actions, part, more);
+    let count = count_answer(source.machine, entries, more);
     if count > matches.len() {
         return Err(Refusal::NoRoomForMatches);
     }
-    write_answer(m, rows, actions, part, more, matches);
+    write_answer(source.machine, entries, more, matches);
     Ok(Answer::Matches(count))
 }

@@ -16,12 +16,7 @@ pub const MOST_PIECES: usize = 128;
 fn all_inside(file: &[u8], rows: &[Row]) -> bool
     ensures { result ≡ all_inside file.now rows.now }
 {
-    for row in rows {
-        if row.place as usize + row.name_len as usize + 2 > file.len() {
-            return false;
-        }
-    }
-    true
+    rows.iter().all(|row| row.place as usize + row.name_len as usize + 2 <= file.len())
 }
 
 /// The same of a piece's rows.
@@ -35,29 +30,29 @@ fn ruled(file: &[u8], rows: &[Row], piece: Piece) -> bool
 }
 
 impl Job {
-    fn ask_lists(&self, size: usize, rows: usize, actions: usize) -> Option<Refusal>
-        ensures { result ≡ asked_lists (seen self.now) size rows actions None }
+    fn ask_lists(&self, size: usize, rows: usize, actions: usize) -> Result<(), Refusal>
+        ensures { result ≡ allowed (asked_lists (seen self.now) size rows actions None) tt }
     {
         if size != self.size {
-            return Some(Refusal::OtherLength);
+            return Err(Refusal::OtherLength);
         }
         if self.used > rows || self.used > actions {
-            return Some(Refusal::ListsTooShort);
+            return Err(Refusal::ListsTooShort);
         }
-        None
+        Ok(())
     }
 
-    fn ask_room(&self, rows: usize, actions: usize, marks: usize) -> Option<Refusal>
+    fn ask_room(&self, rows: usize, actions: usize, marks: usize) -> Result<(), Refusal>
         requires { (self.now.used ≤ rows) × (self.now.used ≤ actions) }
-        ensures { result ≡ asked_room (seen self.now) rows actions marks }
+        ensures { result ≡ allowed (asked_room (seen self.now) rows actions marks) tt }
     {
         if self.made >= MOST_PIECES {
-            return Some(Refusal::TooManyPieces);
+            return Err(Refusal::TooManyPieces);
         }
         if rows - self.used < marks || actions - self.used < marks {
-            return Some(Refusal::NoRoomForRows);
+            return Err(Refusal::NoRoomForRows);
         }
-        None
+        Ok(())
     }
 
     /// Asks what a read asks, and tells the marks of the bytes that it names.
@@ -71,16 +66,12 @@ impl Job {
     ) -> Result<(usize, usize, usize), Refusal>
         ensures { result ≡ allowed (asked_read file.now (world self.now rows.now actions.now) from to) (scanned file.now from to) }
     {
-        if let Some(why) = self.ask_lists(file.len(), rows.len(), actions.len()) {
-            return Err(why);
-        }
+        self.ask_lists(file.len(), rows.len(), actions.len())?;
         if from > to || to > self.size {
             return Err(Refusal::OutOfRange);
         }
         let marks = scan(file, from, to);
-        if let Some(why) = self.ask_room(rows.len(), actions.len(), marks.2) {
-            return Err(why);
-        }
+        self.ask_room(rows.len(), actions.len(), marks.2)?;
         Ok(marks)
     }
 
@@ -95,9 +86,7 @@ impl Job {
     ) -> Result<(Piece, Piece), Refusal>
         ensures { result ≡ allowed (asked_join file.now (world self.now rows.now actions.now) left right) (nth_piece (seen self.now) left, nth_piece (seen self.now) right) }
     {
-        if let Some(why) = self.ask_lists(file.len(), rows.len(), actions.len()) {
-            return Err(why);
-        }
+        self.ask_lists(file.len(), rows.len(), actions.len())?;
         if left >= self.made || right >= self.made {
             return Err(Refusal::NoSuchPiece);
         }
@@ -109,9 +98,7 @@ impl Job {
         if !ruled(file, rows, l) || !ruled(file, rows, r) {
             return Err(Refusal::RowsBroken);
         }
-        if let Some(why) = self.ask_room(rows.len(), actions.len(), l.part.marks + r.part.marks) {
-            return Err(why);
-        }
+        self.ask_room(rows.len(), actions.len(), l.part.marks + r.part.marks)?;
         Ok((l, r))
     }
 
@@ -125,9 +112,7 @@ impl Job {
     ) -> Result<Piece, Refusal>
         ensures { result ≡ allowed (asked_whole file.now (world self.now rows.now actions.now) piece None) (nth_piece (seen self.now) piece) }
     {
-        if let Some(why) = self.ask_lists(file.len(), rows.len(), actions.len()) {
-            return Err(why);
-        }
+        self.ask_lists(file.len(), rows.len(), actions.len())?;
         if piece >= self.made {
             return Err(Refusal::NoSuchPiece);
         }

@@ -11,8 +11,8 @@ use answers::Match;
 use joining::join as join_rows;
 use machine::{Machine, Refusal};
 use reading::read as read_rows;
-use rows::Row;
 use rows::part::Part;
+use rows::{Entries, Row, Source};
 
 /// The first mark, the last mark and the number of marks of two neighbours together.
 fn joined_ends(left: Part, right: Part) -> (usize, usize, usize)
@@ -43,7 +43,8 @@ impl Job {
         ensures kept { Unchanged result self.old self.new }
     {
         let marks = self.ask_read(file, rows, actions, from, to)?;
-        let kept = read_rows(m, file, rows, actions, self.used, from, to, marks.2);
+        let source = Source { machine: m, file };
+        let kept = read_rows(&source, rows, actions, self.used, from, to, marks.2);
         Ok(self.add(from, to, marks, kept))
     }
 
@@ -62,7 +63,8 @@ impl Job {
     {
         let (l, r) = self.ask_join(file, rows, actions, left, right)?;
         let marks = joined_ends(l.part, r.part);
-        let kept = join_rows(m, file, rows, actions, self.used, l.part, r.part);
+        let source = Source { machine: m, file };
+        let kept = join_rows(&source, rows, actions, self.used, l.part, r.part);
         Ok(self.add(l.from, r.to, marks, kept))
     }
 
@@ -79,7 +81,13 @@ impl Job {
         ensures { FinishSays file.now (M.model m.now) (world self.now rows.now actions.now) piece matches.old result matches.new }
     {
         let p = self.ask_finish(file, rows, actions, piece)?;
-        let n = rows.len().min(actions.len());
-        answer(m, file, &rows[..n], &actions[..n], matches, p.part)
+        let source = Source { machine: m, file };
+        let from = p.part.at;
+        let to = from + p.part.kept.rows;
+        let entries = Entries {
+            rows: &rows[from..to],
+            actions: &actions[from..to],
+        };
+        answer(&source, &entries, p.part, matches)
     }
 }

@@ -1,31 +1,48 @@
-use Rattle.std.proofs.Common.{◌+◌, sym, ap, ◌∙◌, arith}
-use Rattle.std.proofs.lemmas.List.Edits.{length-between}
-use Rattle.rows.specs.Places.{stored}
+use Rattle.std.proofs.Common.{Ok, Err, ap, ◌∙◌, append-nil}
+use Rattle.std.proofs.lemmas.Result.{err_from_is_err_and}
+use Rattle.rows.specs.Places.{stored, paired}
 use Rattle.rows.specs.Lists.{ends_of}
-use Rattle.rows.specs.Stretches.{last_put}
-use Rattle.answers.specs.Finish.{finish}
-use Rattle.finishing.specs.Ends.{answered}
-use Rattle.finishing.proofs.Ranges.{part-paired, part-rule}
+use Rattle.answers.specs.Finish.{finish, row_matches}
+use Rattle.finishing.specs.Ends.{answered, first_close_row}
+use Rattle.finishing.proofs.Listed.{stray-none, by-stray, by-fault, by_rows, by-stretch}
 use Rattle.finishing.proofs.closing.ending.Goals as goal
 
-pub ending_of-requires : goal.ending_of-requires
-ending_of-requires g c =
-    let a = c.args.part.at in
-    let n = c.args.part.kept.rows in
-    let rs = c.args.rows.now in
-    let ps = c.args.actions.now in
-    record {
-      bytes = c.requires.bytes;
-      sizes = length-between rs a (a + n) (omega arith) ∙ sym (length-between ps a (a + n) (omega arith));
-      rule = part-rule c.args.file.now rs a n c.requires.within c.requires.rule;
-    }
+pub returns-in_err-no_stray : goal.returns-in_err-no_stray
+returns-in_err-no_stray g c =
+    let m = stored (g.M.Machine.model c.args.source.now.machine.now) in
+    let es = c.args.entries.now in
+    let e = err_from_is_err_and c.from_residual.result c.from_residual.ensures.1 in
+    ap (answered m (paired es.rows.now es.actions.now)) e.1 ∙ ap Err e.2
+    ∙ by-stray m es.rows.now es.actions.now es.beside c.args.source.now.file.now (ends_of c.args.part) c.args.part.kept.fault c.in_err-no_stray.field-0.0 c.in_err-no_stray.ensures
+
+pub returns-in-Some : goal.returns-in-Some
+returns-in-Some g c =
+    let es = c.args.entries.now in
+    let none = stray-none (first_close_row es.rows.now) tt c.in_ok-no_stray.ensures in
+    ap Err c.from.ensures
+    ∙ by-fault (stored (g.M.Machine.model c.args.source.now.machine.now)) es.rows.now es.actions.now es.beside none c.args.source.now.file.now (ends_of c.args.part) c.args.part.kept.fault c.in-Some.found c.in-Some.is
+
+pub returns-then-part-gt0 : goal.returns-then-part-gt0
+returns-then-part-gt0 g c =
+    let m = stored (g.M.Machine.model c.args.source.now.machine.now) in
+    let es = c.args.entries.now in
+    let none = stray-none (first_close_row es.rows.now) tt c.in_ok-no_stray.ensures in
+    c.last_stretch.ensures
+    ∙ ap (finish m) (by-stretch m es.rows.now es.actions.now es.beside none c.args.source.now.file.now (ends_of c.args.part) c.args.part.kept.fault c.in_default.is c.if-part-gt0.true)
+
+pub returns-in_err-all_closed : goal.returns-in_err-all_closed
+returns-in_err-all_closed g c =
+    let m = stored (g.M.Machine.model c.args.source.now.machine.now) in
+    let es = c.args.entries.now in
+    let none = stray-none (first_close_row es.rows.now) tt c.in_ok-no_stray.ensures in
+    let e = err_from_is_err_and c.from_residual-in_err-all_closed.result c.from_residual-in_err-all_closed.ensures.1 in
+    ap (answered m (paired es.rows.now es.actions.now)) e.1 ∙ ap Err e.2
+    ∙ by_rows m es.rows.now es.actions.now es.beside none c.args.source.now.file.now (ends_of c.args.part) c.args.part.kept.fault (Err c.in_err-all_closed.field-0.0) c.in_default.is c.if-part-gt0.false c.in_err-all_closed.ensures
 
 pub returns : goal.returns
 returns g c =
-    let m = stored (g.M.Machine.model c.args.m.now) in
-    let a = c.args.part.at in
-    let n = c.args.part.kept.rows in
-    let e = part-paired c.args.rows.now c.args.actions.now a n in
-    ap (λ l. answered m l c.ending_of.result) (sym e)
-    ∙ c.ending_of.ensures
-    ∙ ap (λ l. finish m (last_put c.args.file.now m (ends_of c.args.part) (record { rows = l; fault = c.args.part.kept.fault }))) e
+    let m = stored (g.M.Machine.model c.args.source.now.machine.now) in
+    let es = c.args.entries.now in
+    let none = stray-none (first_close_row es.rows.now) tt c.in_ok-no_stray.ensures in
+    ap (λ l. Ok (row_matches m l)) (append-nil (paired es.rows.now es.actions.now))
+    ∙ by_rows m es.rows.now es.actions.now es.beside none c.args.source.now.file.now (ends_of c.args.part) c.args.part.kept.fault (Ok tt) c.in_default.is c.if-part-gt0.false c.in_ok-all_closed.ensures

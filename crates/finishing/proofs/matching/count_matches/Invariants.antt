@@ -1,7 +1,7 @@
-use Rattle.std.proofs.Common.{◌≡◌, ◌*◌, ◌≤◌, length, take}
-use Rattle.rows.specs.Places.{stored, paired}
-use Rattle.answers.specs.Finish.{row_matches}
+use Rattle.std.proofs.Common.{◌≡◌, ◌*◌, ◌≤◌, take}
+use Rattle.std.specs.List.{sum_by, count_by}
+use Rattle.rows.specs.Places.{stored}
 use Rattle.finishing.proofs.matching.count_matches.Given as goal
 
-abbrev pub invariant-loop-i : goal.invariant-loop-i
-invariant-loop-i g l = (l.n ≡ length (row_matches (stored (g.M.Machine.model l.m)) (take l.i (paired l.rows l.actions)))) × (l.n ≤ 8 * l.i)
+abbrev pub invariant-loop-plain : goal.invariant-loop-plain
+invariant-loop-plain g l = (l.n ≡ sum_by (λ p. count_by (λ b. b) ((stored (g.M.Machine.model l.m)).marks p)) (take l.plain-index l.plain-items)) × (l.n ≤ 8 * l.plain-index)

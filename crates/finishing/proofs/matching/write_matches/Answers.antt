@@ -1,44 +1,40 @@
-use Rattle.std.proofs.Common.{◌+◌, length, sym, ap, ◌∙◌, arith}
-use Rattle.std.proofs.lemmas.List.{take_all}
-use Rattle.rows.specs.Places.{stored, paired, at}
-use Rattle.rows.specs.Lists.{splice}
-use Rattle.rows.proofs.Pairs.{length-paired}
+use Rattle.std.proofs.Common.{◌++◌, length, refl, sym, ap, inl, inr, ◌∙◌, ⊎_elim, arith}
+use Rattle.rows.specs.Places.{stored, paired}
 use Rattle.answers.specs.Own.{matches_at}
 use Rattle.answers.specs.Finish.{row_matches}
-use Rattle.rows.proofs.Splices.{splice-none}
-use Rattle.finishing.proofs.Matches.{row_room, row_written, row-end}
+use Rattle.std.proofs.lemmas.List.{length-append}
+use Rattle.finishing.proofs.Matches.{all-pending, pending-as, pending-moved, part-written, written-all, next-row, same-matches, paired-ended}
 use Rattle.finishing.proofs.matching.write_matches.Goals as goal
 
-pub loop-i-init : goal.loop-i-init
-loop-i-init g c = (sym (splice-none c.args.at c.args.matches.now), omega arith)
+pub loop-row-init : goal.loop-row-init
+loop-row-init g c =
+    let it = c.into_iter-row-iterator.ensures.into_iter_gives in
+    let rows-are = ap (λ x. x.a.rest.now) it ∙ ap (λ x. x.rest.now) c.zip-row-items.ensures.first ∙ c.iter.ensures.rest in
+    let acts-are = ap (λ x. x.b.rest.now) it ∙ c.zip-row-items.ensures.second.0 in
+    pending-as (sym (same-matches (stored (g.M.Machine.model c.args.m.now)) rows-are acts-are)) (all-pending 0 _ _ _ (omega arith) c.requires)
 
 pub write_set-n-requires : goal.write_set-n-requires
 write_set-n-requires g c =
-    let m = g.M.Machine.model c.args.m.now in
-    let rs = c.args.rows.now in
-    let p = c.index-actions-i.result in
-    let set = c.marked.ensures in
-    let room = row_room m rs c.args.actions.now c.requires.sizes c.loop-i.i (omega arith) p c.index-actions-i.is c.args.matches.now c.loop-i.matches c.args.at c.loop-i.n c.loop-i.invariant.0 c.loop-i.invariant.1 c.requires.room in
-    let one = ap (λ l. length (matches_at (at rs c.loop-i.i).place 0 l)) set in
-    omega (arith, room, one, c.loop-i.auto.matches)
+    let m = stored (g.M.Machine.model c.args.m.now) in
+    let s = c.in-Some.ensures.steps in
+    let p = pending-as (next-row m c.in-Some.row.now c.in-Some.plain.now s.0 s.1) c.loop-row.invariant in
+    let own = ap (λ x. length (matches_at c.in-Some.row.now.place 0 x)) c.marked.ensures in
+    let sum = length-append (matches_at c.in-Some.row.now.place 0 (m.marks c.in-Some.plain.now)) (row_matches m (paired c.next.new.self.a.rest.now c.next.new.self.b.rest.now)) in
+    omega (arith, own, sum, p.ends, p.room)
 
-pub loop-i-preserved : goal.loop-i-preserved
-loop-i-preserved g c =
-    let m = g.M.Machine.model c.args.m.now in
-    let rs = c.args.rows.now in
-    let p = c.index-actions-i.result in
-    let i = c.loop-i.i in
-    let set = c.marked.ensures in (
-      c.write_set-n.ensures.written ∙ ap (λ l. splice c.loop-i.n (matches_at (at rs i).place 0 l) c.loop-i.matches) set
-          ∙ row_written m rs c.args.actions.now c.requires.sizes i (omega arith) p c.index-actions-i.is c.args.matches.now c.loop-i.matches c.args.at c.loop-i.n c.loop-i.invariant.0 c.loop-i.invariant.1 c.requires.room,
-      c.write_set-n.ensures.end ∙ ap (λ l. c.loop-i.n + length (matches_at (at rs i).place 0 l)) set
-          ∙ row-end m rs c.args.actions.now c.requires.sizes i (omega arith) p c.index-actions-i.is c.args.matches.now c.loop-i.matches c.args.at c.loop-i.n c.loop-i.invariant.0 c.loop-i.invariant.1 c.requires.room,
-    )
+pub loop-row-preserved : goal.loop-row-preserved
+loop-row-preserved g c =
+    let m = stored (g.M.Machine.model c.args.m.now) in
+    let s = c.in-Some.ensures.steps in
+    let w = c.write_set-n in
+    let own = ap (λ x. matches_at c.in-Some.row.now.place 0 x) c.marked.ensures in
+    let p = pending-as (next-row m c.in-Some.row.now c.in-Some.plain.now s.0 s.1 ∙ ap (λ x. x ++ row_matches m (paired c.next.new.self.a.rest.now c.next.new.self.b.rest.now)) (sym own)) c.loop-row.invariant in
+    pending-moved w.ensures.end refl (part-written (matches_at c.in-Some.row.now.place 0 c.marked.result) p w.ensures.written w.auto.matches)
 
 pub returns : goal.returns
 returns g c =
-    let e = take_all c.loop-i.i (paired c.args.rows.now c.args.actions.now) (let n = length-paired c.args.rows.now c.args.actions.now c.requires.sizes in omega arith) in
-    record {
-      written = c.loop-i.invariant.0 ∙ ap (λ l. splice c.args.at (row_matches (stored (g.M.Machine.model c.args.m.now)) l) c.args.matches.now) e;
-      end = c.loop-i.invariant.1 ∙ ap (λ l. c.args.at + length (row_matches (stored (g.M.Machine.model c.args.m.now)) l)) e;
-    }
+    let l = c.loop-row in
+    let m = stored (g.M.Machine.model c.args.m.now) in
+    let none = paired-ended l.row-iterator.a.rest.now l.row-iterator.b.rest.now (⊎_elim (λ e. inl e.1.0) (λ e. inr e.1.0) c.in-None.ensures.steps) in
+    let all = written-all (pending-as (ap (row_matches m) none) l.invariant) in
+    record { written = all.0; end = all.1 }

@@ -1,10 +1,13 @@
-use Rattle.std.proofs.Common.{◌≡◌, ◌+◌, length, take}
+use Rattle.std.proofs.Common.{length}
 use Rattle.rows.specs.Places.{stored, paired}
 use Rattle.rows.specs.Lists.{splice}
 use Rattle.answers.specs.Finish.{row_matches}
+use Rattle.finishing.proofs.Matches.{Pending}
 use Rattle.finishing.proofs.matching.write_matches.Given as goal
 
-abbrev pub invariant-loop-i : goal.invariant-loop-i
-invariant-loop-i g l =
-    let ms = row_matches (stored (g.M.Machine.model l.m)) (take l.i (paired l.rows l.actions)) in
-    (l.matches ≡ splice l.at ms l.initial.matches) × (l.n ≡ l.at + length ms)
+abbrev pub invariant-loop-row : goal.invariant-loop-row
+invariant-loop-row g l =
+    let m = stored (g.M.Machine.model l.m) in
+    let entries = l.entries in
+    let all = row_matches m (paired entries.rows.now entries.actions.now) in
+    Pending l.n (row_matches m (paired l.row-iterator.a.rest.now l.row-iterator.b.rest.now)) l.matches (splice 0 all l.initial.matches) (length all)

@@ -1,7 +1,10 @@
-use Rattle.std.proofs.Common.{◌≡◌, ◌+◌, length, take}
+use Rattle.std.proofs.Common.{◌+◌, length, drop}
 use Rattle.rows.specs.Lists.{splice}
 use Rattle.answers.specs.Own.{matches_at}
+use Rattle.finishing.proofs.Matches.{Pending}
 use Rattle.finishing.proofs.matching.write_set.Given as goal
 
-abbrev pub invariant-loop-q : goal.invariant-loop-q
-invariant-loop-q l = (l.matches ≡ splice l.at (matches_at l.place 0 (take l.q l.set)) l.initial.matches) × (l.n ≡ l.at + length (matches_at l.place 0 (take l.q l.set)))
+abbrev pub invariant-loop-query : goal.invariant-loop-query
+invariant-loop-query l =
+    let all = matches_at l.place 0 l.set in
+    Pending l.n (matches_at l.place l.query (drop l.query l.set)) l.matches (splice l.at all l.initial.matches) (l.at + length all)

@@ -1,105 +1,64 @@
-use Rattle.std.proofs.Common.{◌+◌, ◌<◌, ◌≤◌, length, take, drop, sym, refl, ◌∙◌, subst, arith}
-use Rattle.std.proofs.lemmas.List.{length-drop}
-use Rattle.rows.specs.Pieces.{Inside}
-use Rattle.rows.specs.Places.{stored, paired, entry, at, no_row, state}
-use Rattle.joining.proofs.Loops.{running_none, added_more, closed-more, same_more, moved, stopped_more, after-all}
-use Rattle.joining.proofs.Regions.{same-below, same-sizes, length-region, read-region}
-use Rattle.joining.proofs.joining.take_rows.Goals.{in-Added, in-Closed+in-Some, in-Closed+in_default}
+use Rattle.std.proofs.Common.{◌≡◌, ◌<◌, length, Some, None, refl, ap, ◌∙◌, ⊎_elim, arith}
+use Rattle.joining.proofs.Loops.{running_none, renamed, added_more, closed-more, same_more, stopped_more, own-here, running-all}
 use Rattle.joining.proofs.joining.take_rows.Goals as goal
 
-pub loop-k-init : goal.loop-k-init
-loop-k-init g c =
-    let a = c.args in
-    let u = a.used in
-    let m = stored (g.M.Machine.model a.m.now) in (
-      running_none a.file.now m (drop u a.rows.now) (drop u a.actions.now) a.left (take a.count (drop a.from (paired a.rows.now a.actions.now))) c.last_open_from-base.result (same-sizes a.rows.now a.actions.now u c.requires.sizes) (let w = length-drop u a.rows.now in omega arith) c.last_open_from-base.ensures c.requires.names,
-      refl,
-      refl,
-    )
-
-pub put_at-requires : goal.put_at-requires
-put_at-requires g c =
-    let a = c.args in
-    let v = c.loop-k.invariant.0 in
-    let i = a.from + c.loop-k.k in
+pub loop-row-init : goal.loop-row-init
+loop-row-init g c =
+    let it = c.into_iter-row-iterator.ensures.into_iter_gives in
+    let rows-are = ap (λ x. x.a.rest.now) it ∙ ap (λ x. x.rest.now) c.zip-row-items.ensures.first ∙ c.iter.ensures.rest in
+    let acts-are = ap (λ x. x.b.rest.now) it ∙ c.zip-row-items.ensures.second.0 in
     record {
-      sizes = omega arith;
-      room = omega (arith, v.high);
-      within = v.low;
-      based = v.based;
-      names = v.names;
-      own = subst (Inside a.file.now) (sym (same-below c.loop-k.rows a.rows.now a.used i no_row (omega arith) c.loop-k.invariant.1)) (c.requires.own c.loop-k.k (omega arith));
+      running = renamed rows-are acts-are (running_none c.args.lists.now.beside (omega arith) (omega arith) c.args.more.now.beside c.base_of-base.ensures c.requires.names c.requires.own);
+      same = (refl, refl, refl);
+    }
+
+pub put_entry-requires : goal.put_entry-requires
+put_entry-requires g c =
+    let i = c.loop-row.invariant.running in
+    let s = c.in-Some.ensures.steps in
+    let room : c.loop-row.n < length c.loop-row.lists.rows.now = let k = ap length s.0 in omega (arith, i.high, c.loop-row.invariant.same.2, c.requires.room) in
+    record {
+      room = room;
+      within = i.low;
+      based = i.based;
+      names = i.names;
+      own = own-here i s.0 s.1;
     }
 
 pub returns-in-Mismatch : goal.returns-in-Mismatch
 returns-in-Mismatch g c =
-    let a = c.args in
-    let u = a.used in
-    let m = stored (g.M.Machine.model a.m.now) in
-    let l = c.loop-k in
-    let p = c.index-actions-from.result in
-    let es = take a.count (drop a.from (paired a.rows.now a.actions.now)) in
-    let long = length-region a.rows.now a.actions.now c.requires.sizes a.from a.count (omega arith) in
-    let here : l.k < length es = omega arith in
-    let row = at l.rows (a.from + l.k) in
-    let read = read-region a.rows.now a.actions.now c.requires.sizes a.from a.count l.rows l.actions u l.k p l.invariant.1 l.invariant.2 c.requires.below (omega arith) (omega arith) c.index-actions-from.is in
-    let did = c.in-Mismatch.ensures in
-    let to = c.put_at.new in
+    let i = c.loop-row.invariant.running in
+    let s = c.in-Some.ensures.steps in
     record {
-      taken = stopped_more a.file.now m (drop u a.rows.now) (drop u a.actions.now) a.left es (drop u l.rows) (drop u to.rows) (drop u l.actions) (drop u to.actions) l.n l.k l.base (entry row p) l.invariant.0 here read row.place did.taken;
-      within = (l.invariant.0.low, omega (arith, l.invariant.0.high));
-      old = (did.old.0 ∙ l.invariant.1, did.old.1 ∙ l.invariant.2);
+      taken = record { stop = Some c.in-Some.row.now.place; taken = stopped_more i s.0 s.1 _ _ c.in-Mismatch.ensures.taken; fault = ap (λ f. Some f) c.mismatch.ensures };
+      within = (i.low, omega (arith, i.high));
+      same = (cc, cc, cc);
     }
 
-pub loop-k-preserved : goal.loop-k-preserved
-loop-k-preserved g c =
-    let a = c.args in
-    let u = a.used in
-    let m = stored (g.M.Machine.model a.m.now) in
-    let l = c.loop-k in
-    let p = c.index-actions-from.result in
-    let es = take a.count (drop a.from (paired a.rows.now a.actions.now)) in
-    let long = length-region a.rows.now a.actions.now c.requires.sizes a.from a.count (omega arith) in
-    let here : l.k < length es = omega arith in
-    let row = at l.rows (a.from + l.k) in
-    let read = read-region a.rows.now a.actions.now c.requires.sizes a.from a.count l.rows l.actions u l.k p l.invariant.1 l.invariant.2 c.requires.below (omega arith) (omega arith) c.index-actions-from.is in
-    let rs = drop u l.rows in
-    let ps = drop u l.actions in
-    let rs' = drop u c.put_at.new.rows in
-    let ps' = drop u c.put_at.new.actions in
-    let to = moved a.file.now m (drop u a.rows.now) (drop u a.actions.now) a.left es rs' ps' in
-    elim c.match-put_at.branch [
-      | in-Added w ↦
-          let did = w.in-Added.ensures in (
-            to _ _ _ _ _ w.n-is w.base-is (added_more a.file.now m (drop u a.rows.now) (drop u a.actions.now) a.left es rs rs' ps ps' l.n l.k l.base (entry row p) l.invariant.0 here read row did.taken did.rows),
-            did.old.0 ∙ l.invariant.1,
-            did.old.1 ∙ l.invariant.2,
-          )
-      | in-Closed+in-Some w ↦
-          let did = w.in-Closed.ensures in (
-            to _ _ _ _ _ w.n-is w.base-is (closed-more a.file.now m (drop u a.rows.now) (drop u a.actions.now) a.left es rs rs' ps ps' l.n l.k l.base (entry row p) l.invariant.0 here read w.in-Some.i w.last_open_from-base-in-Some.result w.in-Some.is (let y = length-drop u l.rows in omega arith) did.taken did.rows w.last_open_from-base-in-Some.ensures),
-            did.old.0 ∙ l.invariant.1,
-            did.old.1 ∙ l.invariant.2,
-          )
-      | in-Closed+in_default w ↦
-          let did = w.in-Closed.ensures in (
-            to _ _ _ _ _ w.n-is w.base-is (same_more a.file.now m (drop u a.rows.now) (drop u a.actions.now) a.left es rs rs' ps ps' l.n l.k l.base (entry row p) l.invariant.0 here read w.in_default.is did.taken did.rows),
-            did.old.0 ∙ l.invariant.1,
-            did.old.1 ∙ l.invariant.2,
-          )
-    ]
+pub loop-row-preserved-in-Added : goal.loop-row-preserved-in-Added
+loop-row-preserved-in-Added g c =
+    let s = c.in-Some.ensures.steps in
+    let did = c.in-Added.ensures in
+    record { running = added_more c.loop-row.invariant.running s.0 s.1 _ _ did.taken did.rows; same = (cc, cc, cc) }
+
+pub loop-row-preserved-in-Some-base : goal.loop-row-preserved-in-Some-base
+loop-row-preserved-in-Some-base g c =
+    let s = c.in-Some.ensures.steps in
+    let did = c.in-Closed.ensures in
+    record { running = closed-more c.loop-row.invariant.running s.0 s.1 _ _ c.in-Some-base.is (omega (arith, c.loop-row.invariant.same.2)) did.taken did.rows c.base_of-base-in-Some-base.ensures; same = (cc, cc, cc) }
+
+pub loop-row-preserved : goal.loop-row-preserved
+loop-row-preserved g c =
+    let s = c.in-Some.ensures.steps in
+    let did = c.in-Closed.ensures in
+    record { running = same_more c.loop-row.invariant.running s.0 s.1 _ _ c.in_default.is did.taken did.rows; same = (cc, cc, cc) }
 
 pub returns : goal.returns
 returns g c =
-    let a = c.args in
-    let u = a.used in
-    let m = stored (g.M.Machine.model a.m.now) in
-    let l = c.loop-k in
-    let es = take a.count (drop a.from (paired a.rows.now a.actions.now)) in
-    let long = length-region a.rows.now a.actions.now c.requires.sizes a.from a.count (omega arith) in
-    let past : length es ≤ l.k = omega arith in
+    let i = c.loop-row.invariant.running in
+    let none : length c.loop-row.row-iterator.a.rest.now ≡ 0 = ⊎_elim (λ e. e.1.0) (λ e. let k = e.1.0 in omega (arith, i.beside)) c.in-None.ensures.steps in
     record {
-      taken = sym (after-all a.file.now m (state (paired (drop u l.rows) (drop u l.actions)) a.left l.n _) es l.k past) ∙ l.invariant.0.so_far;
-      within = (l.invariant.0.low, omega (arith, l.invariant.0.high));
-      old = (l.invariant.1, l.invariant.2);
+      taken = record { stop = None; taken = running-all _ i none; fault = refl };
+      within = (i.low, omega (arith, i.high));
+      same = c.loop-row.invariant.same;
     }

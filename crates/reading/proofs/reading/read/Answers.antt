@@ -10,12 +10,12 @@ use Rattle.reading.proofs.reading.read.Goals as goal
 pub returns : goal.returns
 returns g c =
     let a = c.args in
-    let m = stored (g.M.Machine.model a.m.now) in
-    let file = a.file.now in
+    let m = stored (g.M.Machine.model a.source.now.machine.now) in
+    let file = a.source.now.file.now in
     let rs = a.rows.now in
     let ps = a.actions.now in
     let u = a.used in
-    let d = c.read_rows in
+    let d = c.read_into in
     let ys = d.new.rows in
     let qs = d.new.actions in
     let n = d.result.rows in

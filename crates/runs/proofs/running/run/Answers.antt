@@ -9,8 +9,8 @@ use Rattle.job.proofs.Asked.{turns_none}
 use Rattle.runs.proofs.Faithful.{sound-begun, opened-now, step, a-run, chain_push, same-calls}
 use Rattle.runs.proofs.running.run.Goals as goal
 
-pub loop-i-init : goal.loop-i-init
-loop-i-init g c =
+pub loop-step-init : goal.loop-step-init
+loop-step-init g c =
     let a = c.args in
     let m = g.M.Machine.model a.m.now in
     let file = a.file.now in
@@ -20,22 +20,22 @@ loop-i-init g c =
       subst (λ (j : State). Sound m file (record { job = j; rows = a.rows.now; actions = a.actions.now })) e (sound-begun m file a.rows.now a.actions.now a.matches.now),
     )
 
-pub loop-i-preserved : goal.loop-i-preserved
-loop-i-preserved g c =
+pub loop-step-preserved : goal.loop-step-preserved
+loop-step-preserved g c =
     let a = c.args in
     let m = g.M.Machine.model a.m.now in
     let laws = g.met.M.Machine.lawful a.m.now in
     let file = a.file.now in
-    let i = c.loop-i.i in
-    let ss = c.loop-i.steps in
+    let i = c.loop-step.step-index in
+    let ss = c.loop-step.steps in
     let d : Step = answered (Read 0 0) Unanswered in
-    let s : Step = answered (get_or ss i d).call c.make-reply.result in
-    let w = stage c.loop-i.job c.loop-i.rows c.loop-i.actions c.loop-i.matches in
-    let v = stage c.make-reply.new.job c.make-reply.new.rows c.make-reply.new.actions c.make-reply.new.matches in
-    let next = step m file laws w s v c.loop-i.invariant.2 c.make-reply.ensures in
+    let s : Step = answered (get_or ss i d).call c.make-step.result in
+    let w = stage c.loop-step.job c.loop-step.rows c.loop-step.actions c.loop-step.matches in
+    let v = stage c.make-step.new.job c.make-step.new.rows c.make-step.new.actions c.make-step.new.matches in
+    let next = step m file laws w s v c.loop-step.invariant.2 c.make-step.ensures in
     let h : i < length ss = omega arith in (
-      same-calls ss i d s h refl ∙ c.loop-i.invariant.0,
-      subst (λ (xs : List Step). Chain (Faithfully m file) (begun file a.rows.now a.actions.now a.matches.now) xs v) (sym (take_more_set ss i s h)) (chain_push c.loop-i.invariant.1 next.0),
+      same-calls ss i d s h refl ∙ c.loop-step.invariant.0,
+      subst (λ (xs : List Step). Chain (Faithfully m file) (begun file a.rows.now a.actions.now a.matches.now) xs v) (sym (take_more_set ss i s h)) (chain_push c.loop-step.invariant.1 next.0),
       next.1,
     )
 
@@ -45,9 +45,9 @@ returns g c =
     let m = g.M.Machine.model a.m.now in
     let laws = g.met.M.Machine.lawful a.m.now in
     let file = a.file.now in
-    let ss = c.loop-i.steps in
+    let ss = c.loop-step.steps in
     let w = begun file a.rows.now a.actions.now a.matches.now in
-    let v = stage c.loop-i.job c.loop-i.rows c.loop-i.actions c.loop-i.matches in
+    let v = stage c.loop-step.job c.loop-step.rows c.loop-step.actions c.loop-step.matches in
     let o = opened-now (length file) (seen a.job.now) c.open.result (seen c.open.new.self) c.open.ensures.says c.in_ok-open.was in
-    let ran = subst (λ (xs : List Step). Chain (Faithfully m file) w xs v) (take_all c.loop-i.i ss (omega arith)) c.loop-i.invariant.1 in
-    turns_none (asked_open (length file)) _ _ o.0 (refl, a-run m file laws w a.steps.now ss v c.loop-i.invariant.0 ran c.loop-i.invariant.2)
+    let ran = subst (λ (xs : List Step). Chain (Faithfully m file) w xs v) (take_all c.loop-step.step-index ss (omega arith)) c.loop-step.invariant.1 in
+    turns_none (asked_open (length file)) _ _ o.0 (refl, a-run m file laws w a.steps.now ss v c.loop-step.invariant.0 ran c.loop-step.invariant.2)

@@ -25,7 +25,6 @@ join-kept-requires g c =
     let t = join_told a.file.now a.self.now a.rows.now a.actions.now a.left a.right d.l d.r c.ask_join.result c.ask_join.ensures d.was in
     let y = t.ready in
     record {
-      bytes = y.bytes;
       room = (y.in_rows, y.in_acts);
       below = (y.left.2, y.right.2);
       few = (y.left.3, y.right.3);

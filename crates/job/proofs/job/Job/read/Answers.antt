@@ -23,7 +23,7 @@ pub read-kept-requires : goal.read-kept-requires
 read-kept-requires g c =
     let a = c.args in
     let t = read_told a.file.now a.self.now a.rows.now a.actions.now a.from a.to c.in_ok-marks.marks c.ask_read.result c.ask_read.ensures c.in_ok-marks.was in
-    record { bytes = t.bytes; within = t.within; marks = t.count; room = (t.in_rows, t.in_acts) }
+    record { within = t.within; marks = t.count; room = (t.in_rows, t.in_acts) }
 
 pub add-requires : goal.add-requires
 add-requires g c =
