@@ -1,12 +1,11 @@
 -- What the program prints.
-use Rattle.std.specs.Prelude.{ℕ, List, [], ◌∷◌, ◌++◌, take, codes, decimal}
+use Rattle.std.specs.Prelude.{ℕ, List, [], ◌∷◌, ◌++◌, take, Ok, Err, Result, codes, decimal}
 use Rattle.machine.specs.Refusals.{refusal_number}
 use Rattle.answers.specs.declared.matches.Match.{Match}
 use Rattle.answers.specs.Faults.{fault_number, fault_place}
 use Rattle.job.specs.declared.answer.Answer.{Answer}
 use Rattle.job.specs.declared.answer.Answer.TheVariants.{Fault, Matches}
-use Rattle.solving.specs.declared.outcome.Outcome.{Outcome}
-use Rattle.solving.specs.declared.outcome.Outcome.TheVariants.{Refused, Answered}
+use Rattle.machine.specs.declared.refusal.Refusal.{Refusal}
 
 -- a word and one or two numbers, on a line
 abbrev pub line_1 : List ℕ → ℕ → List ℕ
@@ -24,6 +23,6 @@ abbrev pub told : Answer → List Match → List ℕ
 told (Fault f) ms = line_2 (codes "fault ") (fault_number f) (fault_place f)
 told (Matches n) ms = match_lines (take n ms) ++ line_1 (codes "end ") n
 
-abbrev pub listing : Outcome → List Match → List ℕ
-listing (Refused why) ms = line_1 (codes "refused ") (refusal_number why)
-listing (Answered a) ms = told a ms
+abbrev pub listing : Result Answer Refusal → List Match → List ℕ
+listing (Err why) ms = line_1 (codes "refused ") (refusal_number why)
+listing (Ok a) ms = told a ms

@@ -1,21 +1,7 @@
--- One turn of a search for a byte, and of one for an empty line.
+-- One turn of a search for an empty line.
 use Rattle.std.proofs.Common.{◌≡◌, ℕ, suc, ◌+◌, ◌<◌, ◌≤◌, Bool, true, false, cond, ◌&&◌, eqb, List, length, get_or, drop, ap, ◌∙◌, arith}
 use Rattle.std.proofs.lemmas.List.{at_drop_more, at_drop_all}
-use Rattle.std.proofs.lemmas.Bool.{eq-eqb, ne_eqb}
-use Rattle.request.specs.Lines.{ahead, ahead_of_blank}
-
-module _ (c : ℕ) (xs : List ℕ) (i : ℕ) (was : ahead c xs ≡ i + ahead c (drop i xs)) where
-  more : i < length xs → ahead c (drop i xs) ≡ cond (eqb (get_or xs i 0) c) 0 (suc (ahead c (drop (i + 1) xs)))
-  more h = at_drop_more (ahead c) xs i 0 h
-
-  pub found : i < length xs → get_or xs i 0 ≡ c → i ≡ ahead c xs
-  found h e = let t = more h ∙ ap (λ b. cond b 0 (suc (ahead c (drop (i + 1) xs)))) (eq-eqb (get_or xs i 0) c e) in omega (arith, t)
-
-  pub passed : i < length xs → (get_or xs i 0 ≡ c → ⊥) → ahead c xs ≡ (i + 1) + ahead c (drop (i + 1) xs)
-  passed h e = let t = more h ∙ ap (λ b. cond b 0 (suc (ahead c (drop (i + 1) xs)))) (ne_eqb (get_or xs i 0) c e) in omega (arith, t)
-
-  pub ended : length xs ≤ i → i ≤ length xs → length xs ≡ ahead c xs
-  ended h k = let t : ahead c (drop i xs) ≡ 0 = at_drop_all (ahead c) xs i h in omega (arith, t)
+use Rattle.request.specs.Lines.{ahead_of_blank}
 
 module _ (fresh : Bool) (xs : List ℕ) (i n : ℕ) (was : n ≡ i + ahead_of_blank fresh (drop i xs)) where
   more-blank : i < length xs → ahead_of_blank fresh (drop i xs) ≡ cond (fresh && eqb (get_or xs i 0) 10) 0 (suc (ahead_of_blank (eqb (get_or xs i 0) 10) (drop (i + 1) xs)))

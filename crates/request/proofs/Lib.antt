@@ -1,3 +1,4 @@
 mod Finding
 mod Placing
 mod Written
+pub mod Stopping

@@ -1,13 +1,14 @@
 -- Reading an input gives back what it was written from.
 use Rattle.std.proofs.Common.{◌≡◌, ℕ, suc, ◌+◌, ◌-◌, ◌<◌, ◌≤◌, Bool, true, false, cond, ◌&&◌, eqb, ltb, leb, ◌⊎◌, List, [], ◌∷◌, ◌++◌, map, length, get_or, take, drop, Some, None, sym, refl, ap, ◌∙◌, subst, inl, inr, ⊎_elim, append_assoc, append-nil, zero-add, add-one, arith, length-append}
 use lib.Seq.{take-append_seam}
-use Rattle.std.specs.List.{AllByRecursion}
+use Rattle.std.specs.List.{AllByRecursion, onto_first}
 use Rattle.std.proofs.lemmas.List.{take_all, drop_all}
 use Rattle.std.proofs.ByRecursion.{All-get_or}
 use Rattle.std.proofs.lemmas.Bool.{eq-eqb, ne_eqb, cases_eq, le-ltb, lt-ltb, and_from, and_parts, and_left, and_right, leb-true, le-leb, false≢true}
 use Rattle.request.specs.Lines.{ahead, first_line, other_lines, ahead_of_blank, blank_line, lines_ahead, after_blank}
-use Rattle.request.specs.Places.{words, on_first, digit, digits, some, value, limit, is_place, are_places, rising, cuts_of}
+use Rattle.request.specs.Places.{words, digit, digits, some, value, limit, is_place, are_places, rising, cuts_of}
 use Rattle.request.specs.Asked.{judged, request}
+use Rattle.request.proofs.Placing.{first-word}
 use Rattle.request.specs.Forms.{Line, QueryLine, ended, parted_on, parted, Body, filed, unfiled, unended, Written, alone, whole, PlaceWord, Rising, RisingAfter, CutLine, Way, ReadsBack}
 
 -- the first line
@@ -240,13 +241,6 @@ way_of input w = ⊎_elim
 
 -- the words of a line
 
-some_words : (bs : List ℕ) → (w : List ℕ) × (ws : List (List ℕ)) × (words bs ≡ w ∷ ws)
-some_words [] = ([], [], refl)
-some_words (b ∷ bs) =
-    let r = some_words bs in
-    elim (eqb b 32) as (λ t. (w : List ℕ) × (ws : List (List ℕ)) × (cond t ([] ∷ words bs) (on_first b (words bs)) ≡ w ∷ ws))
-    [ true ↦ ([], words bs, refl) | false ↦ (b ∷ r.0, r.1, ap (on_first b) r.2) ]
-
 parted-first : (b : ℕ) (w : List ℕ) (ws : List (List ℕ)) → parted_on 32 (b ∷ w) ws ≡ b ∷ parted_on 32 w ws
 parted-first b w [] = refl
 parted-first b w (k ∷ ws) = refl
@@ -254,11 +248,12 @@ parted-first b w (k ∷ ws) = refl
 parted-words : (bs : List ℕ) → parted 32 (words bs) ≡ bs
 parted-words [] = refl
 parted-words (b ∷ bs) =
-    let r = some_words bs in
-    let rest : parted_on 32 r.0 r.1 ≡ bs = ap (parted 32) (sym r.2) ∙ parted-words bs in
+    let first = take (ahead 32 bs) bs in
+    let r = first-word bs in
+    let rest : parted_on 32 first r.0 ≡ bs = ap (parted 32) (sym r.1) ∙ parted-words bs in
     ⊎_elim
-    (λ (e : b ≡ 32). ap (λ t. parted 32 (cond t ([] ∷ words bs) (on_first b (words bs)))) (eq-eqb b 32 e) ∙ ap (λ l. parted 32 ([] ∷ l)) r.2 ∙ ap (λ l. 32 ∷ l) rest ∙ ap (λ x. x ∷ bs) (sym e))
-    (λ (n : b ≡ 32 → ⊥). ap (λ t. parted 32 (cond t ([] ∷ words bs) (on_first b (words bs)))) (ne_eqb b 32 n) ∙ ap (λ l. parted 32 (on_first b l)) r.2 ∙ parted-first b r.0 r.1 ∙ ap (λ l. b ∷ l) rest)
+    (λ (e : b ≡ 32). ap (λ t. parted 32 (cond t ([] ∷ words bs) (onto_first b (words bs)))) (eq-eqb b 32 e) ∙ ap (λ l. parted 32 ([] ∷ l)) r.1 ∙ ap (λ l. 32 ∷ l) rest ∙ ap (λ x. x ∷ bs) (sym e))
+    (λ (n : b ≡ 32 → ⊥). ap (λ t. parted 32 (cond t ([] ∷ words bs) (onto_first b (words bs)))) (ne_eqb b 32 n) ∙ ap (λ l. parted 32 (onto_first b l)) r.1 ∙ parted-first b first r.0 ∙ ap (λ l. b ∷ l) rest)
     (cases_eq b 32)
 
 -- a word of digits, after which the words ws come
@@ -267,8 +262,8 @@ with_word [] ws h e = e
 with_word (b ∷ w) ws h e =
     let n : b ≡ 32 → ⊥ = λ z. let low = h.0.0 in omega arith in
     ap words (parted-first b w ws)
-    ∙ ap (λ t. cond t ([] ∷ words (parted_on 32 w ws)) (on_first b (words (parted_on 32 w ws)))) (ne_eqb b 32 n)
-    ∙ ap (on_first b) (with_word w ws h.1 e)
+    ∙ ap (λ t. cond t ([] ∷ words (parted_on 32 w ws)) (onto_first b (words (parted_on 32 w ws)))) (ne_eqb b 32 n)
+    ∙ ap (onto_first b) (with_word w ws h.1 e)
 
 no_word : (ws : List (List ℕ)) → AllByRecursion PlaceWord ws → words (parted_on 32 [] ws) ≡ [] ∷ ws
 no_word [] h = refl
@@ -341,7 +336,7 @@ cut_words line cuts true h e =
     let p = and_parts (are_places (words line)) (rising 0 (map value (words line))) h in
     let same : cuts ≡ map value (words line) = cc in
     record { words = words line; places = place-words (words line) p.0; is = sym (parted-words line); cut = same; rise = subst Rising (sym same) (rises (map value (words line)) p.1) }
-cut_words line cuts false h e = let z : ◌≡◌ {A = ℕ} 0 1 = cc in absurd (omega arith)
+cut_words line cuts false h e = cc
 
 cut_line : (line cuts : List ℕ) → cuts_of line ≡ Some cuts → CutLine line cuts
 cut_line [] cuts e =

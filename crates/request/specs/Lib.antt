@@ -1,5 +1,6 @@
 pub mod Lines
 pub mod Places
 pub mod Asked
+pub mod Stops
 pub mod Given
 pub mod Forms

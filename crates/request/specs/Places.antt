@@ -1,14 +1,10 @@
 -- A line of cut places: decimal numbers parted by single spaces, each greater than the one before.
 use Rattle.std.specs.Prelude.{ℕ, ◌+◌, ◌-◌, ◌*◌, Bool, true, false, cond, ◌&&◌, List, [], ◌∷◌, map, Some, None, Option, ◌==◌, nat_le}
+use Rattle.std.specs.List.{slice_split}
 
 -- the words of a line: one more than it has spaces, and empty where two spaces meet
-abbrev pub on_first : ℕ → List (List ℕ) → List (List ℕ)
-on_first b [] = []
-on_first b (w ∷ ws) = (b ∷ w) ∷ ws
-
 abbrev pub words : List ℕ → List (List ℕ)
-words [] = [] ∷ []
-words (b ∷ bs) = cond (b == 32) ([] ∷ words bs) (on_first b (words bs))
+words line = slice_split (λ b. b == 32) line
 
 abbrev pub digit : ℕ → Bool
 digit b = nat_le 48 b && nat_le b 57
@@ -39,6 +35,10 @@ is_place word = some word && (digits word && nat_le (value word) limit)
 
 abbrev pub place_of : List ℕ → Option ℕ
 place_of word = cond (is_place word) (Some (value word)) None
+
+-- the same, where the place is no less than `least`
+abbrev pub place_from : ℕ → List ℕ → Option ℕ
+place_from least word = cond (is_place word && nat_le least (value word)) (Some (value word)) None
 
 abbrev pub are_places : List (List ℕ) → Bool
 are_places [] = true

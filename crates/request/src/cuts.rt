@@ -1,10 +1,10 @@
 //! The first line of the input: cut places.
 ghost use Rattle.std.specs.Prelude.{◌≡◌};
-ghost use Rattle.request.specs.Places.{place_of, cuts_of};
+ghost use Rattle.request.specs.Places.{place_of, place_from, cuts_of};
 ghost use Rattle.request.specs.Asked.{LineSays, Wants};
 
-use crate::lines::bytes_before;
-use crate::refusal::{InputRefusal, Stop};
+use crate::refusal::InputRefusal;
+use crate::stop::Stop;
 use std::alloc::Global;
 
 /// The greatest place, and the greatest length of a file.
@@ -19,7 +19,7 @@ pub fn place_of(word: &[u8]) -> Option<usize>
     }
     let mut place = 0;
     for b in word {
-        if *b < b'0' || *b > b'9' {
+        if !b.is_ascii_digit() {
             return None;
         }
         place = place * 10 + (*b - b'0') as usize;
@@ -30,8 +30,15 @@ pub fn place_of(word: &[u8]) -> Option<usize>
     Some(place)
 }
 
+/// The place that a word writes, where it is no less than `least`.
+fn place_from(word: &[u8], least: usize) -> Option<usize>
+    ensures { result ≡ place_from least word.now }
+{
+    place_of(word).filter(|place| *place >= least)
+}
+
 /// The cut places of a line of rising places, parted by single spaces.
-pub fn cuts_of(heap: Global, line: &[u8]) -> Result<Vec<usize>, Stop>
+pub fn cuts_of(heap: Global, line: &[u8]) -> Result<Vec<usize>, Stop<InputRefusal>>
     ensures cuts { LineSays result (cuts_of line.now) }
     ensures memory { Wants result line.now }
 {
@@ -40,20 +47,10 @@ pub fn cuts_of(heap: Global, line: &[u8]) -> Result<Vec<usize>, Stop>
         return Ok(cuts);
     }
     let mut least = 0;
-    let mut rest = line;
-    loop {
-        let to = bytes_before(rest, b' ');
-        let Some(place) = place_of(&rest[0..to]) else {
-            return Err(Stop::Refused(InputRefusal::BadCuts));
-        };
-        if place < least {
-            return Err(Stop::Refused(InputRefusal::BadCuts));
-        }
+    for word in line.split(|b| *b == b' ') {
+        let place = place_from(word, least).ok_or(InputRefusal::BadCuts)?;
         cuts.push(place)?;
-        if to == rest.len() {
-            return Ok(cuts);
-        }
         least = place + 1;
-        rest = &rest[to + 1..];
     }
+    Ok(cuts)
 }

@@ -1,12 +1,13 @@
 //! The whole input.
-ghost use Rattle.std.specs.Prelude.{◌≡◌, ◌+◌, drop};
+ghost use Rattle.std.specs.Prelude.{◌≡◌, ◌+◌, ◌≤◌, length, drop};
 ghost use Rattle.request.specs.Lines.{first_line, lines_ahead, after_blank};
 ghost use Rattle.request.specs.Asked.{request, Wants};
 ghost use Rattle.request.specs.Given.{Gives};
 
 use crate::cuts::{LIMIT, cuts_of};
 use crate::lines::{blank_line, bytes_before};
-use crate::refusal::{InputRefusal, Stop};
+use crate::refusal::InputRefusal;
+use crate::stop::Stop;
 use std::alloc::Global;
 
 /// What an input asks for. The queries are its query lines, parted by byte 10.
@@ -21,10 +22,9 @@ pub struct Request<'a> {
 fn past<'a>(bytes: &'a [u8], to: usize) -> &'a [u8]
     ensures { result.now ≡ drop (to + 1) bytes.now }
 {
-    if to < bytes.len() {
-        &bytes[to + 1..]
-    } else {
-        &bytes[0..0]
+    match bytes.get(to..) {
+        Some([_, rest @ ..]) => rest,
+        _ => &[],
     }
 }
 
@@ -34,23 +34,21 @@ fn parts<'a>(bytes: &'a [u8]) -> (&'a [u8], &'a [u8])
     ensures file { result.1.now ≡ after_blank bytes.now }
 {
     let blank = blank_line(bytes);
-    let file = past(bytes, blank);
-    if blank > 0 && bytes[blank - 1] == b'\n' {
-        return (&bytes[0..blank - 1], file);
-    }
-    (&bytes[0..blank], file)
+    let lines = &bytes[..blank];
+    let queries = lines.strip_suffix(b"\n").unwrap_or(lines);
+    (queries, past(bytes, blank))
 }
 
 /// Reads an input: a line of cut places, query lines, an empty line, and the file.
-pub fn read_request<'a>(heap: Global, input: &'a [u8]) -> Result<Request<'a>, Stop>
+pub fn read_request<'a>(heap: Global, input: &'a [u8]) -> Result<Request<'a>, Stop<InputRefusal>>
     ensures asks { Gives result (request input.now) }
     ensures memory { Wants result (first_line input.now) }
 {
     let to = bytes_before(input, b'\n');
-    let cuts = cuts_of(heap, &input[0..to])?;
+    let cuts = cuts_of(heap, &input[..to])?;
     let (queries, file) = parts(past(input, to));
     if file.len() > LIMIT {
-        return Err(Stop::Refused(InputRefusal::LongFile));
+        return Err(InputRefusal::LongFile.into());
     }
     Ok(Request {
         cuts,

@@ -7,7 +7,9 @@ pub mod forms;
 pub mod input;
 pub mod lines;
 pub mod refusal;
+pub mod stop;
 
 pub use forms::input_forms;
 pub use input::{Request, read_request};
-pub use refusal::{InputRefusal, Stop};
+pub use refusal::InputRefusal;
+pub use stop::Stop;

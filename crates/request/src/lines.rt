@@ -7,12 +7,7 @@ pub fn bytes_before(bytes: &[u8], c: u8) -> usize
     ensures before { result ≡ ahead c bytes.now }
     ensures within { result ≤ length bytes.now }
 {
-    for (i, b) in bytes.iter().enumerate() {
-        if *b == c {
-            return i;
-        }
-    }
-    bytes.len()
+    bytes.iter().position(|b| *b == c).unwrap_or(bytes.len())
 }
 
 /// How many bytes stand before the first empty line, or all of them.
@@ -20,6 +15,7 @@ pub fn blank_line(bytes: &[u8]) -> usize
     ensures before { result ≡ blank_line bytes.now }
     ensures within { result ≤ length bytes.now }
 {
+    // A loop, and no `position`: whether a byte ends an empty line hangs on the byte before it.
     let mut fresh = true;
     for (at, b) in bytes.iter().enumerate() {
         let ends = *b == b'\n';

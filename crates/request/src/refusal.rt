@@ -1,41 +1,33 @@
 //! Why an input is not taken.
 ghost use Rattle.std.specs.Prelude.{◌≡◌};
-ghost use Rattle.request.specs.declared.refusal.Stop.TheVariants.{NoMemory};
-ghost use Rattle.request.specs.Asked.{number};
+ghost use Rattle.request.specs.Asked.{number, as_refusal};
 
-use std::alloc::AllocFailed;
+use machine::Refusal;
 
-/// What is wrong with an input.
+/// What is wrong with an input. Its number is that of the question which the input is refused by.
 #[derive(Clone, Copy, Debug, PartialEq, Eq)]
 pub enum InputRefusal {
     /// The first line is no list of rising places, or has one above 4,096.
-    BadCuts,
+    BadCuts = 9,
     /// The file is longer than 4,096 bytes.
-    LongFile,
+    LongFile = 6,
 }
 
 impl InputRefusal {
     pub fn number(self) -> u8
         ensures { result ≡ number self }
     {
-        match self {
-            InputRefusal::BadCuts => 9,
-            InputRefusal::LongFile => 6,
-        }
+        self as u8
     }
 }
 
-/// Why no request came back.
-#[derive(Clone, Copy, Debug, PartialEq, Eq)]
-pub enum Stop {
-    Refused(InputRefusal),
-    NoMemory,
-}
+impl From<InputRefusal> for Refusal {
+    ghost from_gives = { λ why r. r ≡ as_refusal why };
 
-impl From<AllocFailed<usize>> for Stop {
-    ghost from_gives = { λ e r. r ≡ NoMemory };
-
-    fn from(_e: AllocFailed<usize>) -> Stop {
-        Stop::NoMemory
+    fn from(why: InputRefusal) -> Refusal {
+        match why {
+            InputRefusal::BadCuts => Refusal::OutOfRange,
+            InputRefusal::LongFile => Refusal::FileTooLong,
+        }
     }
 }

@@ -1,19 +1,18 @@
 //! An input answered.
-ghost use Rattle.std.specs.Prelude.{◌≡◌, IfOk};
-ghost use Rattle.table.specs.Tables.{tabled};
+ghost use Rattle.std.specs.Prelude.{◌≡◌, length, vec_items};
 ghost use Rattle.table.specs.Making.{SetsRefused};
-ghost use Rattle.relation.specs.Relations.{related};
 ghost use Rattle.request.specs.Asked.{request};
-ghost use Rattle.solving.specs.Solving.{Kept};
-ghost use Rattle.session.specs.Answering.{as_refusal, Tried, TextSays, Said, Wanted};
+ghost use Rattle.request.specs.Stops.{IfDecided, Kept};
+ghost use Rattle.session.specs.Answering.{room, Tried, TextSays, Said, Wanted};
 
 use answers::Match;
+use job::Answer;
 use machine::{Machine, Refusal};
 use relation::RelationMachine;
-use request::{InputRefusal, Stop, read_request};
+use request::{Request, Stop, read_request};
 use rows::{Row, RowKind};
-use solving::{Outcome, solve};
-use std::alloc::{AllocError, Global};
+use solving::solve;
+use std::alloc::Global;
 use table::TableMachine;
 
 const NO_ROW: Row = Row {
@@ -22,82 +21,61 @@ const NO_ROW: Row = Row {
     name_len: 0,
 };
 
-fn refusal_of(why: InputRefusal) -> Refusal
-    ensures { result ≡ as_refusal why }
-{
-    match why {
-        InputRefusal::BadCuts => Refusal::OutOfRange,
-        InputRefusal::LongFile => Refusal::FileTooLong,
-    }
-}
-
-fn try_table(
+/// The actions are lent, since an array of a type parameter may be too large for memory.
+fn try_machine<M: Machine>(
     heap: Global,
-    machine: &TableMachine,
-    cuts: &[usize],
-    file: &[u8],
+    machine: &M,
+    asked: &Request<'_>,
+    actions: &mut [M::Plain],
     matches: &mut [Match],
-) -> Result<Outcome, AllocError>
-    ensures tried { IfOk result (λ o. Tried (tabled machine.now) cuts.now file.now matches.old o matches.new) }
+) -> Result<Answer, Stop<Refusal>>
+    requires { length actions.old ≡ room }
+    ensures tried { IfDecided result (λ o. Tried (M.model machine.now) (vec_items asked.now.cuts) asked.now.file.now matches.old o matches.new) }
     ensures kept { Kept result matches.old matches.new }
 {
     let mut rows = [NO_ROW; 256];
-    let mut actions = [[0u8; 32]; 256];
-    solve(heap, machine, cuts, file, &mut rows, &mut actions, matches)
-}
-
-fn try_relation(
-    heap: Global,
-    machine: &RelationMachine,
-    cuts: &[usize],
-    file: &[u8],
-    matches: &mut [Match],
-) -> Result<Outcome, AllocError>
-    ensures tried { IfOk result (λ o. Tried (related machine.now) cuts.now file.now matches.old o matches.new) }
-    ensures kept { Kept result matches.old matches.new }
-{
-    let mut rows = [NO_ROW; 256];
-    let mut actions = [machine.stay(); 256];
-    solve(heap, machine, cuts, file, &mut rows, &mut actions, matches)
+    solve(
+        heap,
+        machine,
+        asked.cuts.as_slice(),
+        asked.file,
+        &mut rows,
+        actions,
+        matches,
+    )
 }
 
 /// By the machine of relations, where the table machine cannot have the queries.
 fn answer_by_relation(
     heap: Global,
-    queries: &[u8],
-    cuts: &[usize],
-    file: &[u8],
+    asked: &Request<'_>,
     matches: &mut [Match],
-) -> Result<Outcome, AllocError>
-    requires { SetsRefused queries.now }
-    ensures says { IfOk result (λ o. TextSays queries.now cuts.now file.now matches.old o matches.new) }
+) -> Result<Answer, Stop<Refusal>>
+    requires { SetsRefused asked.now.queries.now }
+    ensures says { IfDecided result (λ o. TextSays asked.now.queries.now (vec_items asked.now.cuts) asked.now.file.now matches.old o matches.new) }
     ensures kept { Kept result matches.old matches.new }
 {
     let mut machine = RelationMachine::new();
-    match machine.make(queries) {
-        Ok(()) => try_relation(heap, &machine, cuts, file, matches),
-        Err(why) => Ok(Outcome::Refused(why)),
-    }
+    machine.make(asked.queries)?;
+    let mut actions = [machine.stay(); 256];
+    try_machine(heap, &machine, asked, &mut actions, matches)
 }
 
 fn answer_queries(
     heap: Global,
-    queries: &[u8],
-    cuts: &[usize],
-    file: &[u8],
+    asked: &Request<'_>,
     matches: &mut [Match],
-) -> Result<Outcome, AllocError>
-    ensures says { IfOk result (λ o. TextSays queries.now cuts.now file.now matches.old o matches.new) }
+) -> Result<Answer, Stop<Refusal>>
+    ensures says { IfDecided result (λ o. TextSays asked.now.queries.now (vec_items asked.now.cuts) asked.now.file.now matches.old o matches.new) }
     ensures kept { Kept result matches.old matches.new }
 {
     let mut machine = TableMachine::new();
-    match machine.make(queries) {
-        Ok(()) => try_table(heap, &machine, cuts, file, matches),
-        Err(why) => match why {
-            Refusal::TooManySets => answer_by_relation(heap, queries, cuts, file, matches),
-            _ => Ok(Outcome::Refused(why)),
-        },
+    let made = machine.make(asked.queries);
+    if made == Err(Refusal::TooManySets) {
+        return answer_by_relation(heap, asked, matches);
     }
+    made?;
+    try_machine(heap, &machine, asked, &mut [[0u8; 32]; 256], matches)
 }
 
 /// Answers an input. The matches are written from the match list's start.
@@ -105,20 +83,11 @@ pub fn answer_input(
     heap: Global,
     input: &[u8],
     matches: &mut [Match],
-) -> Result<Outcome, AllocError>
-    ensures said { IfOk result (λ o. Said (request input.now) matches.old o matches.new) }
+) -> Result<Answer, Stop<Refusal>>
+    ensures said { IfDecided result (λ o. Said (request input.now) matches.old o matches.new) }
     ensures kept { Kept result matches.old matches.new }
     ensures memory { Wanted result input.now }
 {
-    match read_request(heap, input) {
-        Ok(asked) => answer_queries(
-            heap,
-            asked.queries,
-            asked.cuts.as_slice(),
-            asked.file,
-            matches,
-        ),
-        Err(Stop::Refused(why)) => Ok(Outcome::Refused(refusal_of(why))),
-        Err(Stop::NoMemory) => Err(AllocError),
-    }
+    let asked = read_request(heap, input)?;
+    answer_queries(heap, &asked, matches)
 }

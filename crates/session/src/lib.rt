@@ -8,4 +8,5 @@ pub mod printing;
 pub use answering::answer_input;
 pub use listing::listing_of;
 pub use printing::print_of;
-pub use solving::{Outcome, outcome_of, plan_calls, solve};
+pub use request::Stop;
+pub use solving::{outcome_of, plan_calls, solve};

@@ -40,8 +40,8 @@ fn inputs(rt: HostRuntime) -> Result<(), Fail> {
             "match 15 0\nend 1\n",
         ),
     ];
-    for case in cases.iter() {
-        prints(&rt, rt.alloc(), case.0, case.1)?;
+    for (input, listing) in cases {
+        prints(&rt, rt.alloc(), input, listing)?;
     }
     Ok(())
 }

@@ -5,7 +5,7 @@ use std::alloc::Global;
 use std::process::Abort;
 use std::test::Fail;
 
-const BAD_CUTS: Stop = Stop::Refused(InputRefusal::BadCuts);
+const BAD_CUTS: Stop<InputRefusal> = Stop::Refused(InputRefusal::BadCuts);
 
 // What the input says.
 fn says(
@@ -27,7 +27,12 @@ fn says(
     }
 }
 
-fn stops(rt: &impl Abort, heap: Global, input: &[u8], stop: Stop) -> Result<(), Fail> {
+fn stops(
+    rt: &impl Abort,
+    heap: Global,
+    input: &[u8],
+    stop: Stop<InputRefusal>,
+) -> Result<(), Fail> {
     match read_request(heap, input) {
         Ok(_) => Err(Fail::new("not refused")),
         Err(found) => {
@@ -59,8 +64,8 @@ fn inputs(rt: HostRuntime) -> Result<(), Fail> {
             b"x",
         ),
     ];
-    for case in cases.iter() {
-        says(&rt, rt.alloc(), case.0, case.1, case.2, case.3)?;
+    for (input, cuts, queries, file) in cases {
+        says(&rt, rt.alloc(), input, cuts, queries, file)?;
     }
     Ok(())
 }
@@ -81,8 +86,8 @@ fn bad_first_lines(rt: HostRuntime) -> Result<(), Fail> {
         b"1\r\n/a\n\n<a/>",
         b"/a\n\n<a/>",
     ];
-    for case in cases.iter() {
-        stops(&rt, rt.alloc(), case, BAD_CUTS)?;
+    for input in cases {
+        stops(&rt, rt.alloc(), input, BAD_CUTS)?;
     }
     Ok(())
 }
@@ -113,8 +118,8 @@ fn places(rt: HostRuntime) {
         (b"4097", None),
         (b"1x", None),
     ];
-    for case in cases.iter() {
-        assert_eq!(rt; place_of(case.0), case.1);
+    for (word, place) in cases {
+        assert_eq!(rt; place_of(word), place);
     }
 }
 
@@ -128,9 +133,9 @@ fn lines(rt: HostRuntime) {
         (b"ab\n", 2, 3),
         (b"a\nb\n\nc", 1, 4),
     ];
-    for case in cases.iter() {
-        assert_eq!(rt; bytes_before(case.0, b'\n'), case.1);
-        assert_eq!(rt; blank_line(case.0), case.2);
+    for (bytes, first, blank) in cases {
+        assert_eq!(rt; bytes_before(bytes, b'\n'), first);
+        assert_eq!(rt; blank_line(bytes), blank);
     }
 }
 

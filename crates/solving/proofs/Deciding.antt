@@ -1,5 +1,5 @@
 -- A plan that is run decides: its last step is a finish, and there is no other.
-use Rattle.std.proofs.Common.{◌≡◌, ℕ, ◌+◌, ◌*◌, List, [], ◌∷◌, ◌++◌, map, length, Some, Ok, Err, Option, Result, sym, refl, ap, subst, append_assoc, arith}
+use Rattle.std.proofs.Common.{◌≡◌, ℕ, ◌+◌, ◌*◌, List, [], ◌∷◌, ◌++◌, map, length, Some, Ok, Err, Option, Result, sym, refl, ap, subst, append_assoc}
 use Rattle.machine.specs.declared.refusal.Refusal.{Refusal}
 use Rattle.machine.specs.Model.{Model}
 use Rattle.answers.specs.declared.fault.Fault.{Fault}
@@ -12,8 +12,6 @@ use Rattle.runs.specs.declared.steps.Reply.TheVariants as reply
 use Rattle.runs.specs.declared.steps.Step.{Step}
 use Rattle.job.specs.State.{Ended}
 use Rattle.runs.specs.Runs.{Stage, Does, reads, joins, finishes, Chain, none, more, Faithfully, Run}
-use Rattle.solving.specs.declared.outcome.Outcome.{Outcome}
-use Rattle.solving.specs.declared.outcome.Outcome.TheVariants.{Refused, Answered}
 use Rattle.solving.specs.Plan.{reading, planned, plan_of, unanswered}
 use Rattle.solving.specs.Solving.{FinishesLast, calls_of}
 use Rattle.solving.specs.Outcomes.{decided, first_of, outcome_of}
@@ -35,22 +33,18 @@ pub plan_ends : (cuts : List ℕ) (size : ℕ) → FinishesLast (calls_of (plan_
 plan_ends cuts size = subst FinishesLast (sym (same-calls (planned cuts size))) (plan_finishes cuts size)
 
 -- an outcome, of which an answer is `whole`
-pub record Decision (whole : Result (List Match) Fault) (ms ns : List Match) (o : Option Outcome) : Type 0 where
-  pub what : Outcome
+pub record Decision (whole : Result (List Match) Fault) (ms ns : List Match) (o : Option (Result Answer Refusal)) : Type 0 where
+  pub what : Result Answer Refusal
   pub is : Some what ≡ o
-  pub answers : (a : Answer) → what ≡ Answered a → Ended whole ms (Ok a) ns
+  pub answers : (a : Answer) → what ≡ Ok a → Ended whole ms (Ok a) ns
 
 module _ (whole : Result (List Match) Fault) (ms ns : List Match) where
-  refuses : (why : Refusal) → Decision whole ms ns (Some (Refused why))
-  refuses why = record { what = Refused why; is = refl; answers = λ a e. let z : ◌≡◌ {A = ℕ} 0 1 = cc in absurd (omega arith) }
-
-  by-made : (r : Result ℕ Refusal) (later : Option Outcome) → Decision whole ms ns later → Decision whole ms ns (first_of (decided (reply.Made r)) later)
+  by-made : (r : Result ℕ Refusal) (later : Option (Result Answer Refusal)) → Decision whole ms ns later → Decision whole ms ns (first_of (decided (reply.Made r)) later)
   by-made (Ok n) later d = d
-  by-made (Err why) later d = refuses why
+  by-made (Err why) later d = record { what = Err why; is = refl; answers = λ a e. cc }
 
-  by_answer : (r : Result Answer Refusal) (later : Option Outcome) → ((a : Answer) → reply.Answered r ≡ reply.Answered (Ok a) → Ended whole ms (Ok a) ns) → Decision whole ms ns (first_of (decided (reply.Answered r)) later)
-  by_answer (Ok a) later h = record { what = Answered a; is = refl; answers = λ b e. let same : a ≡ b = cc in h b (ap (λ x. reply.Answered (Ok x)) same) }
-  by_answer (Err why) later h = refuses why
+  by_answer : (r : Result Answer Refusal) (later : Option (Result Answer Refusal)) → ((a : Answer) → reply.Answered r ≡ reply.Answered (Ok a) → Ended whole ms (Ok a) ns) → Decision whole ms ns (first_of (decided (reply.Answered r)) later)
+  by_answer r later h = record { what = r; is = refl; answers = λ a e. h a (ap (λ x. reply.Answered x) e) }
 
 module _ {A P : Type 0} (m : Model A P) (file : List ℕ) where
   abbrev whole : Result (List Match) Fault
@@ -61,7 +55,7 @@ module _ {A P : Type 0} (m : Model A P) (file : List ℕ) where
 
   nothing-after : (t v : Stage P) (xs : List Step) → Chain (Faithfully m file) t xs v → calls_of xs ≡ [] → t.found ≡ v.found
   nothing-after t v xs none e = refl
-  nothing-after t v xs (more f fs) e = let z : ◌≡◌ {A = ℕ} 0 1 = cc in absurd (omega arith)
+  nothing-after t v xs (more f fs) e = cc
 
   step-decides : (w t v : Stage P) (x : Step) (xs : List Step) → Does m file w x t → ((a : Answer) → x.reply ≡ reply.Answered (Ok a) → Ended whole w.found (Ok a) t.found) →
       Chain (Faithfully m file) t xs v → Decides t xs v → Decides w (x ∷ xs) v

@@ -1,55 +1,60 @@
 -- One more piece in a plan.
-use Rattle.std.proofs.Common.{◌≡◌, ℕ, ◌+◌, ◌-◌, ◌*◌, ◌<◌, ◌≤◌, List, [], ◌∷◌, ◌++◌, map, length, get_or, drop, sym, ap, ◌∙◌, append_assoc, add-one, arith, length-drop}
+use Rattle.std.proofs.Common.{◌≡◌, ℕ, suc, ◌+◌, ◌-◌, ◌*◌, List, [], ◌∷◌, ◌++◌, map, length, sym, refl, ap, ◌∙◌, append_assoc, arith, length-append}
 use mathlib.Core.List.{map-append}
-use Rattle.std.proofs.lemmas.List.{drop_more, drop_all}
+use Rattle.std.proofs.lemmas.List.{nil_from_length}
+use Rattle.std.proofs.lemmas.Bool.Decides.{nat_tests}
 use Rattle.runs.specs.declared.steps.Call.TheVariants.{Read, Join, Finish}
 use Rattle.runs.specs.declared.steps.Step.{Step}
-use Rattle.solving.specs.Plan.{reading, unanswered, start_of, plan_of}
+use Rattle.solving.specs.Plan.{reading, unanswered, piece_steps, plan_of}
 
-module _ (cuts : List ℕ) (size : ℕ) where
-  -- the plan for the bytes after the first i cuts
-  abbrev pub after : ℕ → List Step
-  after i = map unanswered (reading (start_of cuts i) (drop i cuts) size)
+-- the calls for the bytes from the first of these cuts on, and where that is
+abbrev pub after : List ℕ → ℕ → List Step
+after [] size = []
+after (c ∷ cs) size = map unanswered (reading c cs size)
 
-  pub after-all : unanswered (Read (start_of cuts (length cuts)) size) ∷ [] ≡ after (length cuts)
-  after-all = ap (λ cs. map unanswered (reading (start_of cuts (length cuts)) cs size)) (sym (drop_all (length cuts) cuts (omega arith)))
+abbrev pub first : List ℕ → ℕ → ℕ
+first [] size = size
+first (c ∷ cs) size = c
 
-  module _ (i : ℕ) (h : i < length cuts) where
-    abbrev pub right : ℕ
-    right = 2 * (length cuts - 1 - i)
+length-reading : (start : ℕ) (cuts : List ℕ) (size : ℕ) → length (map unanswered (reading start cuts size)) ≡ suc (2 * length cuts)
+length-reading start [] size = refl
+length-reading start (c ∷ cs) size = simp (map-append, length-append) (let n = length-reading c cs size in omega arith)
 
-    pub after_more : after i ≡ (after (i + 1) ++ (unanswered (Read (start_of cuts i) (get_or cuts i 0)) ∷ [])) ++ (unanswered (Join (right + 1) right) ∷ [])
-    after_more =
-        let c = get_or cuts i 0 in
-        let cs = drop (i + 1) cuts in
-        let n : length cs ≡ length cuts - 1 - i = simp length-drop (omega arith) in
-        let from : c ≡ start_of cuts (i + 1) = rw add-one in
-        ap (λ l. map unanswered (reading (start_of cuts i) l size)) (drop_more cuts i 0 h)
-        ∙ map-append unanswered (reading c cs size) (Read (start_of cuts i) c ∷ Join (2 * length cs + 1) (2 * length cs) ∷ [])
-        ∙ ap (λ k. map unanswered (reading c cs size) ++ (unanswered (Read (start_of cuts i) c) ∷ unanswered (Join (2 * k + 1) (2 * k)) ∷ [])) n
-        ∙ ap (λ k. map unanswered (reading k cs size) ++ (unanswered (Read (start_of cuts i) c) ∷ unanswered (Join (2 * (length cuts - 1 - i) + 1) (2 * (length cuts - 1 - i))) ∷ [])) from
-        ∙ sym (append_assoc (after (i + 1)) (unanswered (Read (start_of cuts i) c) ∷ []) (unanswered (Join (2 * (length cuts - 1 - i) + 1) (2 * (length cuts - 1 - i))) ∷ []))
+pieces : (n start c : ℕ) → piece_steps (suc n) start c ≡ unanswered (Read start c) ∷ unanswered (Join (n + 1) n) ∷ []
+pieces n start c = grind (arith, nat_tests)
 
-  pub after_none : plan_of cuts size ≡ after 0 ++ (unanswered (Finish (2 * length cuts)) ∷ [])
-  after_none = map-append unanswered (reading 0 cuts size) (Finish (2 * length cuts) ∷ [])
+-- what the loop has: the steps for the bytes from the first cut that was looked at, where `left` are still to come
+pub record Planned (cuts : List ℕ) (size : ℕ) (left : List ℕ) (steps : List Step) (to : ℕ) : Type 0 where
+  pub looked : List ℕ
+  pub all : cuts ≡ left ++ looked
+  pub made : steps ≡ after looked size
+  pub here : to ≡ first looked size
 
-  -- what the loop has before a turn and after it: the i cuts on the left are still to come
-  pub plan-more : (i : ℕ) → 0 < i → i ≤ length cuts → (steps read both : List Step) (from : ℕ) →
-      steps ≡ after i →
-      from ≡ start_of cuts (i - 1) →
-      read ≡ steps ++ (unanswered (Read from (get_or cuts (i - 1) 0)) ∷ []) →
-      both ≡ read ++ (unanswered (Join (2 * (length cuts - 1 - (i - 1)) + 1) (2 * (length cuts - 1 - (i - 1)))) ∷ []) →
-      both ≡ after (i - 1)
-  plan-more i low high steps read both from was start e f =
-      let back : (i - 1) + 1 ≡ i = omega arith in
-      let more = after_more (i - 1) (omega arith) in
-      let here : after ((i - 1) + 1) ≡ after i = ap after back in
-      cc
+pub one_more : {cuts : List ℕ} {size : ℕ} {left : List ℕ} {steps : List Step} {to : ℕ} (p : Planned cuts size left steps to) (start : ℕ) (more : List Step) →
+    more ≡ steps ++ piece_steps (length steps) start to → more ≡ map unanswered (reading start p.looked size)
+one_more {size = size} {steps = steps} {to = to} p start more e = e ∙ ap (λ t. steps ++ piece_steps (length steps) start t) p.here ∙ on p.looked p.made where
+  on : (cs : List ℕ) → steps ≡ after cs size → steps ++ piece_steps (length steps) start (first cs size) ≡ map unanswered (reading start cs size)
+  on [] made = ap (λ l. l ++ piece_steps (length l) start size) made
+  on (c ∷ cs) made =
+      let n = ap (length {A = Step}) made ∙ length-reading c cs size in
+      ap (λ k. steps ++ piece_steps k start c) n ∙ ap (λ l. l ++ piece_steps (suc (2 * length cs)) start c) made ∙ ap (λ l. map unanswered (reading c cs size) ++ l) (pieces (2 * length cs) start c)
+      ∙ sym (map-append unanswered (reading c cs size) (Read start c ∷ Join (2 * length cs + 1) (2 * length cs) ∷ []))
 
-  pub plan-begun : (new steps : List Step) (from : ℕ) → new ≡ [] → from ≡ start_of cuts (length cuts) → steps ≡ new ++ (unanswered (Read from size) ∷ []) → steps ≡ after (length cuts)
-  plan-begun new steps from empty start e = e ∙ ap (λ l. l ++ (unanswered (Read from size) ∷ [])) empty ∙ ap (λ k. unanswered (Read k size) ∷ []) start ∙ after-all
+pub planned_more : {cuts : List ℕ} {size : ℕ} {left : List ℕ} {steps : List Step} {to : ℕ} → Planned cuts size left steps to → (cut : ℕ) (rest : List ℕ) (more : List Step) →
+    left ≡ rest ++ (cut ∷ []) → more ≡ steps ++ piece_steps (length steps) cut to → Planned cuts size rest more cut
+planned_more p cut rest more e f = record {
+  looked = cut ∷ p.looked;
+  all = p.all ∙ ap (λ l. l ++ p.looked) e ∙ append_assoc rest (cut ∷ []) p.looked;
+  made = one_more p cut more f;
+  here = refl;
+}
 
-  pub plan-done : (i : ℕ) → i ≤ 0 → (steps whole : List Step) → steps ≡ after i → whole ≡ steps ++ (unanswered (Finish (2 * length cuts)) ∷ []) → whole ≡ plan_of cuts size
-  plan-done i low steps whole was e =
-      let none : i ≡ 0 = omega arith in
-      e ∙ ap (λ l. l ++ (unanswered (Finish (2 * length cuts)) ∷ [])) (was ∙ ap after none) ∙ sym after_none
+pub planned_all : {cuts : List ℕ} {size : ℕ} {left : List ℕ} {steps : List Step} {to : ℕ} → Planned cuts size left steps to → (more whole : List Step) (piece : ℕ) →
+    length left ≡ 0 → more ≡ steps ++ piece_steps (length steps) 0 to → piece ≡ length more - 1 → whole ≡ more ++ (unanswered (Finish piece) ∷ []) → whole ≡ plan_of cuts size
+planned_all {cuts} {size} {left} p more whole piece none e f g =
+    let same : cuts ≡ p.looked = p.all ∙ ap (λ l. l ++ p.looked) (nil_from_length left none) in
+    let read = one_more p 0 more e in
+    let n = ap (length {A = Step}) read ∙ length-reading 0 p.looked size in
+    let last : piece ≡ 2 * length p.looked = omega arith in
+    g ∙ ap (λ l. l ++ (unanswered (Finish piece) ∷ [])) read ∙ ap (λ k. map unanswered (reading 0 p.looked size) ++ (unanswered (Finish k) ∷ [])) last
+    ∙ sym (map-append unanswered (reading 0 p.looked size) (Finish (2 * length p.looked) ∷ [])) ∙ ap (λ cs. plan_of cs size) (sym same)

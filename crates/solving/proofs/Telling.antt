@@ -1,25 +1,29 @@
--- One more reply.
-use Rattle.std.proofs.Common.{◌≡◌, ℕ, ◌+◌, ◌<◌, ◌≤◌, List, length, get_or, drop, Some, None, Option, sym, ap, ◌∙◌}
-use Rattle.std.proofs.lemmas.List.{at_drop_more, at_drop_all}
+-- What the first reply that decides is.
+use Rattle.std.proofs.Common.{◌≡◌, ℕ, zero, suc, ◌<◌, List, [], ◌∷◌, length, get_or, Some, None, Option, Result, sym, refl, ap, ◌∙◌, arith}
+use Rattle.std.specs.Option.{MatchOption}
+use Rattle.machine.specs.declared.refusal.Refusal.{Refusal}
+use Rattle.job.specs.declared.answer.Answer.{Answer}
 use Rattle.runs.specs.declared.steps.Call.TheVariants.{Read}
 use Rattle.runs.specs.declared.steps.Step.{Step}
-use Rattle.solving.specs.declared.outcome.Outcome.{Outcome}
 use Rattle.solving.specs.Plan.{unanswered}
 use Rattle.solving.specs.Outcomes.{decided, first_of, outcome_of}
 
 -- what a read past a list's end gives
-abbrev no_step : Step
+abbrev pub no_step : Step
 no_step = unanswered (Read 0 0)
 
-module _ (steps : List Step) (i : ℕ) (o : Option Outcome) (was : o ≡ outcome_of (drop i steps)) where
-  later : i < length steps → o ≡ first_of (decided (get_or steps i no_step).reply) (outcome_of (drop (i + 1) steps))
-  later h = was ∙ at_drop_more outcome_of steps i no_step h
+abbrev pub NoneDecides : List Step → ℕ → Type 0
+NoneDecides steps n = (k : ℕ) → k < n → decided (get_or steps k no_step).reply ≡ None
 
-  pub told_here : (p : Outcome) → i < length steps → Some p ≡ decided (get_or steps i no_step).reply → Some p ≡ o
-  told_here p h e = sym (later h ∙ ap (λ d. first_of d (outcome_of (drop (i + 1) steps))) (sym e))
+pub none-told : (steps : List Step) → NoneDecides steps (length steps) → None ≡ outcome_of steps
+none-told [] h = refl
+none-told (s ∷ ss) h = let e = h 0 (omega arith) in let f = none-told ss (λ k l. h (suc k) (omega arith)) in f ∙ ap (λ d. first_of d (outcome_of ss)) (sym e)
 
-  pub told-later : i < length steps → None ≡ decided (get_or steps i no_step).reply → o ≡ outcome_of (drop (i + 1) steps)
-  told-later h e = later h ∙ ap (λ d. first_of d (outcome_of (drop (i + 1) steps))) (sym e)
+pub first-told : (steps : List Step) (i : ℕ) (o : Result Answer Refusal) → i < length steps → decided (get_or steps i no_step).reply ≡ Some o → NoneDecides steps i → Some o ≡ outcome_of steps
+first-told [] i o l e h = absurd (omega arith)
+first-told (s ∷ ss) zero o l e h = ap (λ d. first_of d (outcome_of ss)) (sym e)
+first-told (s ∷ ss) (suc i) o l e h = first-told ss i o (omega arith) e (λ k m. h (suc k) (omega arith)) ∙ ap (λ d. first_of d (outcome_of ss)) (sym (h 0 (omega arith)))
 
-  pub told-never : length steps ≤ i → None ≡ o
-  told-never h = sym (was ∙ at_drop_all outcome_of steps i h)
+pub told : (steps : List Step) (r : Option (Result Answer Refusal)) → MatchOption r (NoneDecides steps (length steps)) (λ o. (i : ℕ) × (i < length steps) × (decided (get_or steps i no_step).reply ≡ Some o) × NoneDecides steps i) → r ≡ outcome_of steps
+told steps None h = none-told steps h
+told steps (Some o) h = first-told steps h.0 o h.1 h.2 h.3

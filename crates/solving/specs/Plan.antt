@@ -1,5 +1,5 @@
 -- The calls that read a file in pieces from the last back, and join each to what lies on its right.
-use Rattle.std.specs.Prelude.{ℕ, ◌+◌, ◌*◌, List, [], ◌∷◌, ◌++◌, map, length, slice_index}
+use Rattle.std.specs.Prelude.{ℕ, ◌+◌, ◌-◌, ◌*◌, cond, nat_lt, List, [], ◌∷◌, ◌++◌, map, length}
 use Rattle.runs.specs.declared.steps.Call.{Call}
 use Rattle.runs.specs.declared.steps.Call.TheVariants.{Read, Join, Finish}
 use Rattle.runs.specs.declared.steps.Reply.TheVariants.{Unanswered}
@@ -21,6 +21,6 @@ unanswered c = record { call = c; reply = Unanswered }
 abbrev pub plan_of : List ℕ → ℕ → List Step
 plan_of cuts size = map unanswered (planned cuts size)
 
--- where the piece after the first i cuts begins
-abbrev pub start_of : List ℕ → ℕ → ℕ
-start_of cuts i = slice_index (0 ∷ cuts) i
+-- the calls that read a piece, and join it to the piece that was made last of so many, if there is one
+abbrev pub piece_steps : ℕ → ℕ → ℕ → List Step
+piece_steps made from to = unanswered (Read from to) ∷ cond (nat_lt 0 made) (unanswered (Join made (made - 1)) ∷ []) []

@@ -10,8 +10,7 @@ use Rattle.runs.specs.declared.steps.Call.TheVariants.{Read, Join, Finish}
 use Rattle.runs.specs.declared.steps.Step.{Step}
 use Rattle.job.specs.State.{asked_open, Turns, Ended}
 use Rattle.runs.specs.Runs.{Stage, begun, Run}
-use Rattle.solving.specs.declared.outcome.Outcome.{Outcome}
-use Rattle.solving.specs.declared.outcome.Outcome.TheVariants.{Refused, Answered}
+use Rattle.machine.specs.declared.refusal.Refusal.{Refusal}
 use Rattle.solving.specs.Outcomes.{outcome_of}
 
 -- the last call is a finish, and no other is
@@ -26,7 +25,7 @@ calls_of steps = map (λ (s : Step). s.call) steps
 
 -- The steps that were asked for are run with these lists, and the outcome is the first refusal or answer.
 -- An answer is the file's own by the machine's verdict, with the matches in order from the match list's start.
-pub record Solved {A P : Type 0} (m : Model A P) (asked : List Step) (file : List ℕ) (rs : List Row) (ps : List P) (ms : List Match) (o : Outcome) (rs' : List Row) (ps' : List P) (ns : List Match) : Type 0 where
+pub record Solved {A P : Type 0} (m : Model A P) (asked : List Step) (file : List ℕ) (rs : List Row) (ps : List P) (ms : List Match) (o : Result Answer Refusal) (rs' : List Row) (ps' : List P) (ns : List Match) : Type 0 where
   pub steps : List Step
   pub last : Stage P
   pub run : Run m file (begun file rs ps ms) asked steps last
@@ -35,13 +34,8 @@ pub record Solved {A P : Type 0} (m : Model A P) (asked : List Step) (file : Lis
   -- the lists are left as the last call leaves them
   pub rows : rs' ≡ last.held.rows
   pub actions : ps' ≡ last.held.actions
-  pub answers : (a : Answer) → o ≡ Answered a → Ended (own m.verdict file) ms (Ok a) ns
+  pub answers : (a : Answer) → o ≡ Ok a → Ended (own m.verdict file) ms (Ok a) ns
 
 -- a file that no job is opened for is refused
-abbrev pub SolveSays : {A P : Type 0} → Model A P → List Step → List ℕ → List Row → List P → List Match → Outcome → List Row → List P → List Match → Type 0
-SolveSays m asked file rs ps ms o rs' ps' ns = Turns (asked_open (length file)) (λ why. (o ≡ Refused why) × (ns ≡ ms) × (rs' ≡ rs) × (ps' ≡ ps)) (Solved m asked file rs ps ms o rs' ps' ns)
-
--- the want of memory leaves what may be changed as it was
-abbrev pub Kept : {X E L : Type 0} → Result X E → L → L → Type 0
-Kept (Ok x) old new = Unit {0}
-Kept (Err e) old new = new ≡ old
+abbrev pub SolveSays : {A P : Type 0} → Model A P → List Step → List ℕ → List Row → List P → List Match → Result Answer Refusal → List Row → List P → List Match → Type 0
+SolveSays m asked file rs ps ms o rs' ps' ns = Turns (asked_open (length file)) (λ why. (o ≡ Err why) × (ns ≡ ms) × (rs' ≡ rs) × (ps' ≡ ps)) (Solved m asked file rs ps ms o rs' ps' ns)

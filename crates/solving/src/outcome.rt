@@ -6,32 +6,20 @@ use job::Answer;
 use machine::Refusal;
 use runs::{Reply, Step};
 
-/// What comes of a request.
-#[derive(Clone, Copy)]
-pub enum Outcome {
-    Refused(Refusal),
-    Answered(Answer),
-}
-
 /// A refusal or an answer decides.
-fn decides(reply: Reply) -> Option<Outcome>
+fn decides(reply: Reply) -> Option<Result<Answer, Refusal>>
     ensures { result ≡ decided reply }
 {
     match reply {
-        Reply::Made(Err(why)) | Reply::Answered(Err(why)) => Some(Outcome::Refused(why)),
-        Reply::Answered(Ok(answer)) => Some(Outcome::Answered(answer)),
+        Reply::Made(Err(why)) => Some(Err(why)),
+        Reply::Answered(outcome) => Some(outcome),
         Reply::Made(Ok(_)) | Reply::Unanswered => None,
     }
 }
 
 /// The first refusal or answer among the replies.
-pub fn outcome_of(steps: &[Step]) -> Option<Outcome>
+pub fn outcome_of(steps: &[Step]) -> Option<Result<Answer, Refusal>>
     ensures { result ≡ outcome_of steps.now }
 {
-    for step in steps {
-        if let Some(outcome) = decides(step.reply) {
-            return Some(outcome);
-        }
-    }
-    None
+    steps.iter().find_map(|step| decides(step.reply))
 }

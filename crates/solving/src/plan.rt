@@ -1,6 +1,6 @@
 //! The calls that a request comes to.
-ghost use Rattle.std.specs.Prelude.{◌≡◌, ◌≤◌, [], ◌∷◌, ◌++◌, length, IfOk, OnOk};
-ghost use Rattle.solving.specs.Plan.{plan_of, start_of, unanswered};
+ghost use Rattle.std.specs.Prelude.{◌≡◌, [], ◌∷◌, ◌++◌, length, IfOk, OnOk};
+ghost use Rattle.solving.specs.Plan.{plan_of, piece_steps, unanswered};
 
 use runs::{Call, Reply, Step};
 use std::alloc::{AllocError, Global};
@@ -16,44 +16,31 @@ fn add(steps: &mut Vec<Step>, call: Call) -> Result<(), AllocError>
     Ok(())
 }
 
-/// Where the piece after the first `i` cuts begins.
-fn start_of(cuts: &[usize], i: usize) -> usize
-    requires { i ≤ length cuts.now }
-    ensures { result ≡ start_of cuts.now i }
+/// Reads a piece, and joins it to the piece that was made last, if there is one: each call so far has made a piece.
+fn add_piece(steps: &mut Vec<Step>, from: usize, to: usize) -> Result<(), AllocError>
+    ensures { OnOk result (steps.new.items ≡ steps.old.items ++ piece_steps (length steps.old.items) from to) }
 {
-    if i == 0 { 0 } else { cuts[i - 1] }
+    let made = steps.len();
+    add(steps, Call::Read { from, to })?;
+    if made > 0 {
+        let (left, right) = (made, made - 1);
+        add(steps, Call::Join { left, right })?;
+    }
+    Ok(())
 }
 
 /// The calls that read a file of `size` bytes in pieces, from the last back, each joined to what lies on its right, and finish the whole.
 pub fn plan_calls(heap: Global, cuts: &[usize], size: usize) -> Result<Vec<Step>, AllocError>
     ensures { IfOk result (λ v. v.items ≡ plan_of cuts.now size) }
 {
-    let n = cuts.len();
     let mut steps = Vec::new(heap);
-    add(
-        &mut steps,
-        Call::Read {
-            from: start_of(cuts, n),
-            to: size,
-        },
-    )?;
-    for i in (0..n).rev() {
-        let right = 2 * (n - 1 - i);
-        add(
-            &mut steps,
-            Call::Read {
-                from: start_of(cuts, i),
-                to: cuts[i],
-            },
-        )?;
-        add(
-            &mut steps,
-            Call::Join {
-                left: right + 1,
-                right,
-            },
-        )?;
+    let mut to = size;
+    for cut in cuts.iter().rev() {
+        add_piece(&mut steps, *cut, to)?;
+        to = *cut;
     }
-    add(&mut steps, Call::Finish { piece: 2 * n })?;
+    add_piece(&mut steps, 0, to)?;
+    let whole = steps.len() - 1;
+    add(&mut steps, Call::Finish { piece: whole })?;
     Ok(steps)
 }

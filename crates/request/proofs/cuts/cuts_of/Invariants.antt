@@ -1,11 +1,8 @@
-use Rattle.std.proofs.Common.{◌≡◌, ◌≤◌, true, ◌⊎◌, length, take, vec_items}
-use Rattle.request.specs.Lines.{ahead}
-use Rattle.request.specs.Places.{is_place, cuts_of, words}
-use Rattle.request.proofs.Placing.{follow}
+use Rattle.std.proofs.Common.{vec_items}
+use Rattle.request.proofs.Placing.{WordsLeft}
 use Rattle.request.proofs.cuts.cuts_of.Given as goal
 
-abbrev pub invariant-loop-place : goal.invariant-loop-place
-invariant-loop-place l = (cuts_of l.line ≡ follow (vec_items l.cuts) l.least (words l.rest)) × (length l.rest ≤ length l.line) × ((l.rest ≡ l.line) ⊎ (is_place (take (ahead 32 l.line) l.line) ≡ true))
-
-abbrev pub decreases-loop-place : goal.decreases-loop-place
-decreases-loop-place l = length l.rest
+abbrev pub invariant-loop-word : goal.invariant-loop-word
+invariant-loop-word l =
+    (goal.iterator-loop-word).can_next l.word-iterator × (goal.iterator-loop-word).is_finite l.word-iterator
+    × WordsLeft (goal.iterator-loop-word).next_gives (λ w. w.now) l.line l.word-iterator (vec_items l.cuts) l.least

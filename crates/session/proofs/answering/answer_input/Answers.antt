@@ -1,12 +1,10 @@
-use Rattle.std.proofs.Common.{ap, ◌∙◌}
-use Rattle.std.proofs.lemmas.Result.{IfOk-weaker}
-use Rattle.request.specs.Asked.{asked, request}
-use Rattle.session.proofs.Saying.{said_text, wanted_asked}
+use Rattle.std.proofs.Common.{vec_items}
+use Rattle.request.proofs.Stopping.{weaker}
+use Rattle.request.specs.Asked.{request}
+use Rattle.session.proofs.Saying.{said_text}
 use Rattle.session.proofs.answering.answer_input.Goals as goal
 
-pub returns-in-Ok : goal.returns-in-Ok
-returns-in-Ok c =
-    let queries = c.in-Ok.asked.queries.now in
-    let file = c.in-Ok.asked.file.now in
-    let is = ap (λ l. asked l queries file) c.as_slice.ensures.value ∙ c.in-Ok.ensures.asks in
-    record { kept = c.answer_queries.ensures.kept; memory = wanted_asked c.answer_queries.result c.args.input.now _ queries file is; said = IfOk-weaker c.answer_queries.result _ _ (λ o h. said_text c.as_slice.result.now queries file (request c.args.input.now) c.args.matches.now o _ is h) c.answer_queries.ensures.says }
+pub returns-clause-said : goal.returns-clause-said
+returns-clause-said c =
+    let asked = c.in_ok-asked.asked in
+    weaker c.answer_queries.result (λ o h. said_text (vec_items asked.cuts) asked.queries.now asked.file.now (request c.args.input.now) c.args.matches.now o _ c.in_ok-asked.ensures.asks h) c.answer_queries.ensures.says
