@@ -10,21 +10,15 @@ pub struct Case<'a> {
 
 /// The first `count` bytes, and what stands after the one that follows them.
 fn split_after(bytes: &[u8], count: usize) -> Option<(&[u8], &[u8])> {
-    if count < bytes.len() {
-        Some((&bytes[..count], &bytes[count + 1..]))
-    } else {
-        None
-    }
+    let (part, tail) = bytes.split_at_checked(count)?;
+    let (_, rest) = tail.split_first()?;
+    Some((part, rest))
 }
 
 /// The first line, and what stands after it.
 fn first_line(bytes: &[u8]) -> Option<(&[u8], &[u8])> {
-    for (i, b) in bytes.iter().enumerate() {
-        if *b == b'\n' {
-            return split_after(bytes, i);
-        }
-    }
-    None
+    let end = bytes.iter().position(|b| *b == b'\n')?;
+    split_after(bytes, end)
 }
 
 fn number(digits: &str) -> Option<usize> {

@@ -15,33 +15,41 @@ use std::io;
 use std::io::Read;
 use table::TableMachine;
 
-/// What came of a case.
-#[derive(Drop)]
-enum Outcome {
-    Told(Told),
+/// Why a case tells nothing.
+#[derive(Debug, Drop)]
+enum Stop {
     /// The queries are refused.
     Refused(Refusal),
     /// Two ways of reading the document differ, or one is refused.
     Disagree,
+    NoMemory(AllocError),
+}
+
+impl From<Refusal> for Stop {
+    fn from(why: Refusal) -> Stop {
+        Stop::Refused(why)
+    }
+}
+
+impl From<AllocError> for Stop {
+    fn from(e: AllocError) -> Stop {
+        Stop::NoMemory(e)
+    }
 }
 
 /// What the relation machine tells, and the table machine too where it can be made.
-fn outcome_of(heap: Global, case: &Case) -> Result<Outcome, AllocError> {
+fn told_of(heap: Global, case: &Case) -> Result<Told, Stop> {
     let mut relation = RelationMachine::new();
-    if let Err(why) = relation.make(case.text) {
-        return Ok(Outcome::Refused(why));
-    }
-    let Some(told) = agreed(heap, &relation, case.file)? else {
-        return Ok(Outcome::Disagree);
-    };
+    relation.make(case.text)?;
+    let told = agreed(heap, &relation, case.file)?.ok_or(Stop::Disagree)?;
     let mut table = TableMachine::new();
     match table.make(case.text) {
         Ok(()) => match agreed(heap, &table, case.file)? {
-            Some(again) if again == told => Ok(Outcome::Told(told)),
-            _ => Ok(Outcome::Disagree),
+            Some(again) if again == told => Ok(told),
+            _ => Err(Stop::Disagree),
         },
-        Err(Refusal::TooManySets) => Ok(Outcome::Told(told)),
-        Err(why) => Ok(Outcome::Refused(why)),
+        Err(Refusal::TooManySets) => Ok(told),
+        Err(why) => Err(Stop::Refused(why)),
     }
 }
 
@@ -63,9 +71,7 @@ fn list_told(rt: &impl Print, told: &Told) -> io::Result<()> {
         Answer::Fault(fault) => list_fault(rt, fault),
         Answer::Matches(count) => {
             for found in told.matches.iter() {
-                let place = found.place;
-                let query = found.query;
-                println!(rt; "match {place} {query}")?;
+                println!(rt; "{found}")?;
             }
             println!(rt; "end {count}")
         }
@@ -73,13 +79,14 @@ fn list_told(rt: &impl Print, told: &Told) -> io::Result<()> {
 }
 
 fn list_case(rt: &(impl Print + AllocGlobal), case: &Case) -> io::Result<()> {
-    match outcome_of(rt.alloc(), case)? {
-        Outcome::Told(told) => list_told(rt, &told),
-        Outcome::Refused(why) => {
+    match told_of(rt.alloc(), case) {
+        Ok(told) => list_told(rt, &told),
+        Err(Stop::Refused(why)) => {
             let number = why.number();
             println!(rt; "refused {number}")
         }
-        Outcome::Disagree => println!(rt; "disagree"),
+        Err(Stop::Disagree) => println!(rt; "disagree"),
+        Err(Stop::NoMemory(e)) => Err(e.into()),
     }
 }
 

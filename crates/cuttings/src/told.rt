@@ -30,14 +30,6 @@ fn last_told(heap: Global, steps: &[Step], matches: &[Match]) -> Result<Option<T
     Ok(Some(Told { answer, matches }))
 }
 
-fn filled<T: Copy>(heap: Global, x: T, n: usize) -> Result<Vec<T>, AllocError> {
-    let mut v = Vec::new(heap);
-    for _ in 0..n {
-        v.push(x)?;
-    }
-    Ok(v)
-}
-
 /// What a file tells after these steps, which read each of its marks at most once and join at most `joins` times. The lists hold other rows before.
 pub fn tell<M: Machine>(
     heap: Global,
@@ -53,9 +45,9 @@ pub fn tell<M: Machine>(
         place: 1,
         name_len: 1,
     };
-    let mut rows = filled(heap, row, room)?;
-    let mut actions = filled(heap, m.plain(&m.stay()), room)?;
-    let mut matches = filled(heap, Match { place: 1, query: 1 }, marks.saturating_mul(8))?;
+    let mut rows = vec![in heap; row; room]?;
+    let mut actions = vec![in heap; m.plain(&m.stay()); room]?;
+    let mut matches = vec![in heap; Match { place: 1, query: 1 }; marks.saturating_mul(8)]?;
     let mut job = Job::new();
     match run(
         m,

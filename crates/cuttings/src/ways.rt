@@ -13,41 +13,62 @@ fn step(call: Call) -> Step {
     }
 }
 
-/// Reads the pieces that end at these places, from the first on, and joins each to what stands before it.
-pub fn from_left(heap: Global, ends: &[usize]) -> Result<Vec<Step>, AllocError> {
-    let mut steps = Vec::new(heap);
+/// The pieces that end at these places, each as the places where it begins and ends.
+fn pieces(heap: Global, ends: &[usize]) -> Result<Vec<(usize, usize)>, AllocError> {
+    let mut pieces = Vec::new(heap);
     let mut from = 0;
-    let mut whole = 0;
     for to in ends {
-        let right = steps.len();
-        steps.push(step(Call::Read { from, to: *to }))?;
-        if right > 0 {
+        pieces.push((from, *to))?;
+        from = *to;
+    }
+    Ok(pieces)
+}
+
+/// Reads these pieces in turn, joins each as `join` says to what stands joined so far, and finishes the whole.
+fn steps_of<F: Fn(usize, usize) -> Call>(
+    heap: Global,
+    pieces: &[(usize, usize)],
+    join: F,
+) -> Result<Vec<Step>, AllocError>
+    requires { F.IsAlwaysCallable join }
+{
+    let mut steps = Vec::new(heap);
+    let mut whole = 0;
+    for (from, to) in pieces {
+        let piece = steps.len();
+        steps.push(step(Call::Read {
+            from: *from,
+            to: *to,
+        }))?;
+        if piece > 0 {
             let joined = steps.len();
-            steps.push(step(Call::Join { left: whole, right }))?;
+            steps.push(step(join(whole, piece)))?;
             whole = joined;
         }
-        from = *to;
     }
     steps.push(step(Call::Finish { piece: whole }))?;
     Ok(steps)
 }
 
+/// Reads the pieces that end at these places, from the first on, and joins each to what stands before it.
+pub fn from_left(heap: Global, ends: &[usize]) -> Result<Vec<Step>, AllocError> {
+    let pieces = pieces(heap, ends)?;
+    steps_of(
+        heap,
+        pieces.as_slice(),
+        |left, right| Call::Join { left, right },
+    )
+}
+
 /// Reads the same pieces from the last back, and joins each to what stands after it.
 pub fn from_right(heap: Global, ends: &[usize]) -> Result<Vec<Step>, AllocError> {
-    let mut steps = Vec::new(heap);
-    let mut whole = 0;
-    for i in (0..ends.len()).rev() {
-        let from = if i == 0 { 0 } else { ends[i - 1] };
-        let left = steps.len();
-        steps.push(step(Call::Read { from, to: ends[i] }))?;
-        if left > 0 {
-            let joined = steps.len();
-            steps.push(step(Call::Join { left, right: whole }))?;
-            whole = joined;
-        }
-    }
-    steps.push(step(Call::Finish { piece: whole }))?;
-    Ok(steps)
+    let mut pieces = pieces(heap, ends)?;
+    pieces.as_mut_slice().reverse();
+    steps_of(
+        heap,
+        pieces.as_slice(),
+        |right, left| Call::Join { left, right },
+    )
 }
 
 /// Whether the file, cut at these places, tells the same in both orders.
@@ -78,8 +99,8 @@ fn same_in_two<M: Machine>(
 ) -> Result<bool, AllocError> {
     let length = file.len();
     let step = length / 128 + 1;
-    for k in 0..length / step + 1 {
-        if !same(heap, m, file, &[k.saturating_mul(step), length], told)? {
+    for cut in (0..=length).step_by(step) {
+        if !same(heap, m, file, &[cut, length], told)? {
             return Ok(false);
         }
     }
@@ -90,10 +111,9 @@ fn same_in_two<M: Machine>(
 fn even_pieces(heap: Global, length: usize, pieces: usize) -> Result<Vec<usize>, AllocError>
     requires { 0 < pieces }
 {
-    let mut ends = Vec::new(heap);
-    for i in 1..pieces {
-        ends.push((length / pieces).saturating_mul(i))?;
-    }
+    let mut ends: Vec<usize> = (1..pieces)
+        .map(|i| (length / pieces).saturating_mul(i))
+        .collect(heap)?;
     ends.push(length)?;
     Ok(ends)
 }

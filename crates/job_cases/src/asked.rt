@@ -1,6 +1,5 @@
 //! Each question at its edge, and which of two comes first.
-use crate::turns::{MATCH, ROW, Turn, take_turns};
-use job::Job;
+use crate::turns::{Desk, Turn};
 use machine::Refusal;
 use runs::Call;
 use std::test::Fail;
@@ -61,19 +60,7 @@ static CALLS: [Turn; 40] = [
 fn questions_in_order(rt: HostRuntime) -> Result<(), Fail> {
     let mut m = TableMachine::new();
     m.make(b"/day/stop\n//stop\n/day//tour/*")?;
-    let mut job = Job::new();
-    job.open(FILE.len())?;
-    let mut actions = [[0; 32]; 64];
-    take_turns(
-        &rt,
-        &mut job,
-        &m,
-        FILE,
-        &mut [ROW; 64],
-        &mut actions,
-        &mut [MATCH; 16],
-        &CALLS,
-    );
+    Desk::opened(&m, FILE.len())?.take_turns(&rt, FILE, &CALLS);
     Ok(())
 }
 
@@ -89,25 +76,14 @@ static UNOPENED: [Turn; 5] = [
 #[test]
 fn never_opened(rt: HostRuntime) {
     let m = TableMachine::new();
-    let mut job = Job::new();
-    let mut actions = [[0; 32]; 4];
-    take_turns(
-        &rt,
-        &mut job,
-        &m,
-        FILE,
-        &mut [ROW; 4],
-        &mut actions,
-        &mut [MATCH; 4],
-        &UNOPENED,
-    );
+    Desk::new(&m).take_turns(&rt, FILE, &UNOPENED);
 }
 
 /// A refused open leaves the job and its pieces, an accepted one begins anew.
 #[test]
 fn opened_again(rt: HostRuntime) {
     let m = TableMachine::new();
-    let mut job = Job::new();
+    let mut desk = Desk::new(&m);
     let opens: [(usize, Result<(), Refusal>, usize); 6] = [
         (44, Ok(()), 0),
         (1073741825, Err(Refusal::FileTooLong), 1),
@@ -117,11 +93,11 @@ fn opened_again(rt: HostRuntime) {
         (44, Ok(()), 0),
     ];
     for (size, opened, piece) in opens {
-        assert_eq!(rt; job.open(size), opened);
+        assert_eq!(rt; desk.open(size), opened);
         let turns = [([44, 0, 0, 0], Call::Read { from: 1, to: 5 }, Ok(piece))];
-        take_turns(&rt, &mut job, &m, FILE, &mut [], &mut [], &mut [], &turns);
+        desk.take_turns(&rt, FILE, &turns);
     }
-    assert_eq!(rt; job.open(1073741824), Ok(()));
+    assert_eq!(rt; desk.open(1073741824), Ok(()));
 }
 
 /// With 128 pieces made, what is asked before and after the room for one more.
@@ -153,23 +129,12 @@ static FULL: [Turn; 8] = [
 #[test]
 fn pieces_run_out(rt: HostRuntime) -> Result<(), Fail> {
     let m = TableMachine::new();
-    let mut job = Job::new();
-    job.open(FILE.len())?;
-    let mut actions = [[0; 32]; 4];
+    let mut desk = Desk::opened(&m, FILE.len())?;
     for piece in 0..128 {
         let from = if piece == 127 { 44 } else { 0 };
         let turns = [([44, 0, 0, 0], Call::Read { from, to: from }, Ok(piece))];
-        take_turns(&rt, &mut job, &m, FILE, &mut [], &mut [], &mut [], &turns);
+        desk.take_turns(&rt, FILE, &turns);
     }
-    take_turns(
-        &rt,
-        &mut job,
-        &m,
-        FILE,
-        &mut [ROW; 4],
-        &mut actions,
-        &mut [MATCH; 4],
-        &FULL,
-    );
+    desk.take_turns(&rt, FILE, &FULL);
     Ok(())
 }

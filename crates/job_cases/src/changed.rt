@@ -1,6 +1,5 @@
 //! Rows, actions and bytes that the caller changes between calls.
-use crate::turns::{MATCH, ROW, Turn, take_turns};
-use job::Job;
+use crate::turns::{Desk, Turn};
 use rows::{Row, RowKind};
 use runs::Call;
 use std::process::Abort;
@@ -23,6 +22,13 @@ fn queries() -> Result<TableMachine, Fail> {
     Ok(m)
 }
 
+/// A desk where the two pieces are read.
+fn two_read<'a>(rt: &impl Abort, m: &'a TableMachine) -> Result<Desk<'a>, Fail> {
+    let mut desk = Desk::opened(m, FILE.len())?;
+    desk.take_turns(rt, FILE, &TWO);
+    Ok(desk)
+}
+
 /// Reads the two pieces, puts a row in the place of another, and makes the other calls.
 fn with_row(
     rt: &impl Abort,
@@ -31,31 +37,9 @@ fn with_row(
     row: Row,
     turns: &[Turn],
 ) -> Result<(), Fail> {
-    let mut job = Job::new();
-    job.open(FILE.len())?;
-    let mut rows = [ROW; 64];
-    let mut actions = [[0; 32]; 64];
-    take_turns(
-        rt,
-        &mut job,
-        m,
-        FILE,
-        &mut rows,
-        &mut actions,
-        &mut [MATCH; 16],
-        &TWO,
-    );
-    rows[at % 64] = row;
-    take_turns(
-        rt,
-        &mut job,
-        m,
-        FILE,
-        &mut rows,
-        &mut actions,
-        &mut [MATCH; 16],
-        turns,
-    );
+    let mut desk = two_read(rt, m)?;
+    desk.rows[at % 64] = row;
+    desk.take_turns(rt, FILE, turns);
     Ok(())
 }
 
@@ -277,48 +261,16 @@ static FILES: [(&[u8], Result<usize, u8>, Result<usize, u8>); 7] = [
     ),
 ];
 
-fn with_file(rt: &impl Abort, m: &TableMachine, file: &[u8], turns: &[Turn]) -> Result<(), Fail> {
-    let mut job = Job::new();
-    job.open(FILE.len())?;
-    let mut rows = [ROW; 64];
-    let mut actions = [[0; 32]; 64];
-    take_turns(
-        rt,
-        &mut job,
-        m,
-        FILE,
-        &mut rows,
-        &mut actions,
-        &mut [MATCH; 16],
-        &TWO,
-    );
-    take_turns(
-        rt,
-        &mut job,
-        m,
-        file,
-        &mut rows,
-        &mut actions,
-        &mut [MATCH; 16],
-        turns,
-    );
-    Ok(())
-}
-
 #[test]
 fn another_file(rt: HostRuntime) -> Result<(), Fail> {
     let m = queries()?;
     for (file, joined, told) in FILES {
         let lengths = [file.len(), 64, 64, 16];
-        with_file(
-            &rt,
-            &m,
-            file,
-            &[
-                (lengths, Call::Join { left: 0, right: 1 }, joined),
-                (lengths, Call::Finish { piece: 2 }, told),
-            ],
-        )?;
+        let turns = [
+            (lengths, Call::Join { left: 0, right: 1 }, joined),
+            (lengths, Call::Finish { piece: 2 }, told),
+        ];
+        two_read(&rt, &m)?.take_turns(&rt, file, &turns);
     }
     Ok(())
 }
@@ -327,34 +279,12 @@ fn another_file(rt: HostRuntime) -> Result<(), Fail> {
 #[test]
 fn actions_overwritten(rt: HostRuntime) -> Result<(), Fail> {
     let m = queries()?;
-    let mut job = Job::new();
-    job.open(FILE.len())?;
-    let mut rows = [ROW; 64];
-    let mut actions = [[0; 32]; 64];
-    take_turns(
-        &rt,
-        &mut job,
-        &m,
-        FILE,
-        &mut rows,
-        &mut actions,
-        &mut [MATCH; 16],
-        &TWO,
-    );
-    actions[0] = [255; 32];
+    let mut desk = two_read(&rt, &m)?;
+    desk.actions[0] = [255; 32];
     let turns = [
         (ALL, Call::Join { left: 0, right: 1 }, Ok(2)),
         (ALL, Call::Finish { piece: 2 }, Ok(2)),
     ];
-    take_turns(
-        &rt,
-        &mut job,
-        &m,
-        FILE,
-        &mut rows,
-        &mut actions,
-        &mut [MATCH; 16],
-        &turns,
-    );
+    desk.take_turns(&rt, FILE, &turns);
     Ok(())
 }

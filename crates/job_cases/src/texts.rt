@@ -73,10 +73,7 @@ fn written(heap: Global, part: &[u8], times: usize, end: &[u8]) -> Result<Vec<u8
 }
 
 fn number(made: Result<(), Refusal>) -> u8 {
-    match made {
-        Ok(()) => 0,
-        Err(why) => why.number(),
-    }
+    made.map_or_else(|why| why.number(), |()| 0)
 }
 
 #[test]

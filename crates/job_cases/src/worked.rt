@@ -41,8 +41,8 @@ fn found_in_three<M: Machine>(
     let Some(told) = agreed(heap, m, file)? else {
         return Ok(false);
     };
-    for a in 0..file.len() + 1 {
-        for b in a..file.len() + 1 {
+    for a in 0..=file.len() {
+        for b in a..=file.len() {
             if !same(heap, m, file, &[a, b, file.len()], &told)? {
                 return Ok(false);
             }

@@ -94,11 +94,10 @@ fn report_shapes(
         return Err(anyhow!("the queries were refused"));
     }
     for shape in SHAPES {
-        let wanted = match &name {
-            Some(name) => name.as_str() == shape.name(),
-            None => true,
-        };
-        if wanted {
+        if name
+            .as_ref()
+            .is_none_or(|name| name.as_str() == shape.name())
+        {
             report_shape(rt, &table, &relation, shape, size, parts)?;
         }
     }
@@ -107,11 +106,9 @@ fn report_shapes(
 
 /// Writes a file of the shape of this name to standard output.
 fn write_shape(rt: &(impl Print + AllocGlobal), size: usize, name: &str) -> anyhow::Result<()> {
-    for shape in SHAPES {
-        if shape.name() == name {
-            let file = shape.file(rt.alloc(), size)?;
-            rt.write_all(file.as_slice())?;
-        }
+    if let Some(shape) = SHAPES.iter().find(|shape| shape.name() == name) {
+        let file = shape.file(rt.alloc(), size)?;
+        rt.write_all(file.as_slice())?;
     }
     Ok(())
 }

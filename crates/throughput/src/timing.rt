@@ -20,138 +20,128 @@ pub struct Times {
 
 /// What an accepted call answers.
 fn accepted<T: Drop>(answer: Result<T, Refusal>) -> anyhow::Result<T> {
-    match answer {
-        Ok(it) => Ok(it),
-        Err(_) => Err(anyhow!("a call was refused")),
-    }
+    answer.map_err(|_| anyhow!("a call was refused"))
 }
 
 /// How often pieces are joined in pairs until one is left.
 fn levels(parts: usize) -> usize {
-    for n in 0..7 {
-        if parts <= 1 << n {
-            return n;
-        }
-    }
-    7
+    (0..7).find(|n| parts <= 1 << *n).unwrap_or(7)
 }
 
-/// Reads the file in parts of equal length, and tells the pieces.
-fn read_parts<M: Machine>(
-    heap: Global,
-    m: &M,
-    job: &mut Job,
-    file: &[u8],
-    rows: &mut [Row],
-    actions: &mut [M::Plain],
-    parts: usize,
-) -> anyhow::Result<Vec<usize>> {
-    let mut pieces = Vec::new(heap);
-    let length = file.len().checked_div(parts).unwrap_or(0);
-    let mut from: usize = 0;
-    for i in 0..parts {
-        let to = if parts - i == 1 {
-            file.len()
-        } else {
-            from.saturating_add(length)
-        };
-        let piece = accepted(job.read(m, file, rows, actions, from, to))?;
-        pieces.push(piece)?;
-        from = to;
-    }
-    Ok(pieces)
-}
-
-/// Joins each piece at an even place with the one after it.
-fn join_pairs<M: Machine>(
-    heap: Global,
-    m: &M,
-    job: &mut Job,
-    file: &[u8],
-    rows: &mut [Row],
-    actions: &mut [M::Plain],
-    pieces: &[usize],
-) -> anyhow::Result<Vec<usize>> {
-    let mut joined = Vec::new(heap);
-    for pair in pieces.chunks(2) {
-        let piece = match pair {
-            [left, right] => accepted(job.join(m, file, rows, actions, *left, *right))?,
-            [last] => *last,
-            _ => 0,
-        };
-        joined.push(piece)?;
-    }
-    Ok(joined)
-}
-
-/// The lists that a job is lent.
+/// A file in work, with the lists that its job is lent.
 #[derive(Drop)]
-struct Lists<P: Copy> {
+struct Bench<'a, M: Machine> {
+    machine: &'a M,
+    file: &'a [u8],
+    job: Job,
     rows: Vec<Row>,
-    actions: Vec<P>,
+    actions: Vec<M::Plain>,
     matches: Vec<Match>,
 }
 
-/// Lists with room for every piece that is read or joined.
-fn lend<M: Machine>(
-    heap: Global,
-    m: &M,
-    file: &[u8],
-    parts: usize,
-) -> anyhow::Result<Lists<M::Plain>> {
-    let (_, _, marks) = scan(file, 0, file.len());
-    let room = marks.saturating_mul(levels(parts).saturating_add(1));
-    let mut rows = Vec::new(heap);
-    rows.resize(
-        room,
-        Row {
+impl<'a, M: Machine> Bench<'a, M> {
+    /// With room in the lists for every piece that is read or joined.
+    fn new(heap: Global, machine: &'a M, file: &'a [u8], parts: usize) -> anyhow::Result<Self> {
+        let (_, _, marks) = scan(file, 0, file.len());
+        let room = marks.saturating_mul(levels(parts).saturating_add(1));
+        let row = Row {
             kind: RowKind::Close,
             place: 0,
             name_len: 0,
-        },
-    )?;
-    let mut actions = Vec::new(heap);
-    actions.resize(room, m.plain(&m.stay()))?;
-    let mut matches = Vec::new(heap);
-    matches.resize(marks.saturating_mul(4), Match { place: 0, query: 0 })?;
-    Ok(Lists {
-        rows,
-        actions,
-        matches,
-    })
-}
-
-/// Reads the file in parts, joins these in pairs until one piece is left, and finishes it.
-fn one_round<M: Machine>(
-    heap: Global,
-    clock: &impl Clock,
-    m: &M,
-    file: &[u8],
-    rows: &mut [Row],
-    actions: &mut [M::Plain],
-    matches: &mut [Match],
-    parts: usize,
-) -> anyhow::Result<Times> {
-    let mut job = Job::new();
-    accepted(job.open(file.len()))?;
-    let start = Instant::now(clock)?;
-    let mut pieces = read_parts(heap, m, &mut job, file, rows, actions, parts)?;
-    let read = start.elapsed(clock)?;
-    let start = Instant::now(clock)?;
-    for _ in 0..levels(parts) {
-        pieces = join_pairs(heap, m, &mut job, file, rows, actions, pieces.as_slice())?;
+        };
+        let action = machine.plain(&machine.stay());
+        let found = Match { place: 0, query: 0 };
+        Ok(Bench {
+            machine,
+            file,
+            job: Job::new(),
+            rows: vec![in heap; row; room]?,
+            actions: vec![in heap; action; room]?,
+            matches: vec![in heap; found; marks.saturating_mul(4)]?,
+        })
     }
-    let join = start.elapsed(clock)?;
-    let whole = pieces.first().copied().unwrap_or(0);
-    let start = Instant::now(clock)?;
-    let answer = accepted(job.finish(m, file, rows, actions, matches, whole))?;
-    let finish = start.elapsed(clock)?;
-    Ok(Times {
-        read,
-        join,
-        finish,
-        answer,
-    })
+
+    fn read(&mut self, from: usize, to: usize) -> anyhow::Result<usize> {
+        let rows = self.rows.as_mut_slice();
+        let actions = self.actions.as_mut_slice();
+        accepted(
+            self.job
+                .read(self.machine, self.file, rows, actions, from, to),
+        )
+    }
+
+    fn join(&mut self, left: usize, right: usize) -> anyhow::Result<usize> {
+        let rows = self.rows.as_mut_slice();
+        let actions = self.actions.as_mut_slice();
+        accepted(
+            self.job
+                .join(self.machine, self.file, rows, actions, left, right),
+        )
+    }
+
+    fn finish(&mut self, piece: usize) -> anyhow::Result<Answer> {
+        let rows = self.rows.as_slice();
+        let actions = self.actions.as_slice();
+        let matches = self.matches.as_mut_slice();
+        accepted(
+            self.job
+                .finish(self.machine, self.file, rows, actions, matches, piece),
+        )
+    }
+
+    /// Reads the file in parts of equal length, and tells the pieces.
+    fn read_parts(&mut self, heap: Global, parts: usize) -> anyhow::Result<Vec<usize>> {
+        let mut pieces = Vec::new(heap);
+        let length = self.file.len().checked_div(parts).unwrap_or(0);
+        let mut from: usize = 0;
+        for left in (0..parts).rev() {
+            let to = if left == 0 {
+                self.file.len()
+            } else {
+                from.saturating_add(length)
+            };
+            pieces.push(self.read(from, to)?)?;
+            from = to;
+        }
+        Ok(pieces)
+    }
+
+    /// Joins each piece at an even place with the one after it.
+    fn join_pairs(&mut self, heap: Global, pieces: &[usize]) -> anyhow::Result<Vec<usize>> {
+        let mut joined = Vec::new(heap);
+        for pair in pieces.chunks(2) {
+            let piece = match pair {
+                [left, right] => self.join(*left, *right)?,
+                [last] => *last,
+                _ => 0,
+            };
+            joined.push(piece)?;
+        }
+        Ok(joined)
+    }
+
+    /// Reads the file in parts, joins these in pairs until one piece is left, and finishes it.
+    fn round(&mut self, heap: Global, clock: &impl Clock, parts: usize) -> anyhow::Result<Times> {
+        accepted(self.job.open(self.file.len()))?;
+        let start = Instant::now(clock)?;
+        let mut pieces = self.read_parts(heap, parts)?;
+        let read = start.elapsed(clock)?;
+        let start = Instant::now(clock)?;
+        for _ in 0..levels(parts) {
+            pieces = self.join_pairs(heap, pieces.as_slice())?;
+        }
+        let join = start.elapsed(clock)?;
+        let whole = pieces.first().copied().unwrap_or(0);
+        let start = Instant::now(clock)?;
+        let answer = self.finish(whole)?;
+        let finish = start.elapsed(clock)?;
+        Ok(Times {
+            read,
+            join,
+            finish,
+            answer,
+        })
+    }
 }
 
 /// The shortest time of each stage in five rounds.
@@ -162,13 +152,10 @@ pub fn measure<M: Machine>(
     file: &[u8],
     parts: usize,
 ) -> anyhow::Result<Times> {
-    let mut lent = lend(heap, m, file, parts)?;
-    let rows = lent.rows.as_mut_slice();
-    let actions = lent.actions.as_mut_slice();
-    let matches = lent.matches.as_mut_slice();
-    let mut best = one_round(heap, clock, m, file, rows, actions, matches, parts)?;
+    let mut bench = Bench::new(heap, m, file, parts)?;
+    let mut best = bench.round(heap, clock, parts)?;
     for _ in 0..4 {
-        let times = one_round(heap, clock, m, file, rows, actions, matches, parts)?;
+        let times = bench.round(heap, clock, parts)?;
         best = Times {
             read: best.read.min(times.read),
             join: best.join.min(times.join),
