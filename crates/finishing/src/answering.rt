@@ -36,7 +36,7 @@ pub fn write_answer<M: Machine>(
     requires { length (row_matches (stored (M.model m.now)) (paired entries.now.rows.now entries.now.actions.now ++ last_row more)) ≤ length matches.old }
     ensures { matches.new ≡ splice 0 (row_matches (stored (M.model m.now)) (paired entries.now.rows.now entries.now.actions.now ++ last_row more)) matches.old }
 {
-    let n = write_matches(m, entries, matches);
+    let n = write_matches(m, entries, matches, 0);
     if let Some(last) = more {
         let _ = write_set(matches, n, last.0.place, &marked(m, &last.1));
     }

@@ -14,7 +14,7 @@ use rows::part::Part;
 use rows::places::last_open;
 use rows::{Entries, Row, RowKind, Source};
 
-/// Whether there is no Close row: the first one is a stray end tag.
+/// Answers well if there is no Close row; the first one is a stray end tag.
 fn no_stray(rows: &[Row]) -> Result<(), Fault>
     ensures { result ≡ stray (first_close_row rows.now) }
 {
@@ -26,7 +26,7 @@ fn no_stray(rows: &[Row]) -> Result<(), Fault>
     }
 }
 
-/// Whether none of the first `n` rows is still open: the last one is unclosed.
+/// Answers well if none of the first `n` rows is still open; the last one that is stays unclosed.
 fn all_closed(rows: &[Row], n: usize) -> Result<(), Fault>
     requires { n ≤ length rows.now }
     ensures { AllClosed rows.now n result }

@@ -57,17 +57,18 @@ pub fn write_set(matches: &mut [Match], at: usize, place: u32, set: &[bool; 8]) 
     n
 }
 
-/// Writes the matches of rows in their order, from the list's start, and says where they end.
+/// Writes the matches of rows in their order, from `at` on, and says where they end.
 pub fn write_matches<M: Machine>(
     m: &M,
     entries: &Entries<'_, M::Plain>,
     matches: &mut [Match],
+    at: usize,
 ) -> usize
-    requires { length (row_matches (stored (M.model m.now)) (paired entries.now.rows.now entries.now.actions.now)) ≤ length matches.old }
-    ensures written { matches.new ≡ splice 0 (row_matches (stored (M.model m.now)) (paired entries.now.rows.now entries.now.actions.now)) matches.old }
-    ensures end { result ≡ length (row_matches (stored (M.model m.now)) (paired entries.now.rows.now entries.now.actions.now)) }
+    requires { at + length (row_matches (stored (M.model m.now)) (paired entries.now.rows.now entries.now.actions.now)) ≤ length matches.old }
+    ensures written { matches.new ≡ splice at (row_matches (stored (M.model m.now)) (paired entries.now.rows.now entries.now.actions.now)) matches.old }
+    ensures end { result ≡ at + length (row_matches (stored (M.model m.now)) (paired entries.now.rows.now entries.now.actions.now)) }
 {
-    let mut n = 0;
+    let mut n = at;
     for (row, plain) in entries.rows.iter().zip(entries.actions) {
         n = write_set(matches, n, row.place, &marked(m, plain));
     }

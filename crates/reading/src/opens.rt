@@ -103,11 +103,11 @@ impl Opens {
     }
 
     /// The base once the one at `i` is closed.
-    pub fn next_base<P: Copy>(&mut self, lists: &Lists<'_, P>, i: usize) -> Option<usize>
-        requires within { i ≤ length lists.now.rows.now }
-        requires chain { Chain lists.now.rows.now i (items self.old) self.old.complete }
-        ensures based { Based lists.now.rows.now i result }
-        ensures chain { ChainAt lists.now.rows.now result self.new }
+    pub fn next_base(&mut self, rows: &[Row], i: usize) -> Option<usize>
+        requires within { i ≤ length rows.now }
+        requires chain { Chain rows.now i (items self.old) self.old.complete }
+        ensures based { Based rows.now i result }
+        ensures chain { ChainAt rows.now result self.new }
     {
         if let Some(p) = self.pop() {
             return Some(p);
@@ -115,7 +115,7 @@ impl Opens {
         if self.complete {
             return None;
         }
-        self.refill(lists.rows, i);
+        self.refill(rows, i);
         self.pop()
     }
 }

@@ -4,9 +4,10 @@ ghost use Rattle.tags.specs.Marks.{marks_of};
 ghost use Rattle.tags.specs.Reads.{kind_of, name_of};
 ghost use Rattle.rows.specs.Pieces.{Content, Inside, put};
 ghost use Rattle.rows.specs.Stretches.{row_of, action_of, lone, one, content};
-ghost use Rattle.rows.specs.Places.{stored, paired};
+ghost use Rattle.rows.specs.Places.{stored, paired, Based};
 ghost use Rattle.rows.specs.Lists.{RowRule, Leaves};
 ghost use Rattle.rows.specs.Same.{SameLists};
+ghost use Rattle.reading.specs.Opens.{items, Chain, ChainAt};
 ghost use Rattle.reading.specs.Reading.{so_far, sealed, Ready, Under};
 
 use crate::opens::Opens;
@@ -23,6 +24,16 @@ pub struct Reader {
     pub rows: usize,
     pub base: Option<usize>,
     pub opens: Opens,
+}
+
+/// The base once the one at `i` is closed.
+fn base_below<P: Copy>(opens: &mut Opens, lists: &Lists<'_, P>, i: usize) -> Option<usize>
+    requires within { i ≤ length lists.now.rows.now }
+    requires chain { Chain lists.now.rows.now i (items opens.old) opens.old.complete }
+    ensures based { Based lists.now.rows.now i result }
+    ensures chain { ChainAt lists.now.rows.now result opens.new }
+{
+    opens.next_base(lists.rows, i)
 }
 
 impl Reader {
@@ -94,7 +105,7 @@ impl Reader {
         ensures same { SameLists lists.old lists.new }
     {
         lists.close_base(source.file, i, row)?;
-        self.base = self.opens.next_base(lists, i);
+        self.base = base_below(&mut self.opens, lists, i);
         Ok(())
     }
 

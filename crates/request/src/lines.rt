@@ -15,7 +15,7 @@ pub fn blank_line(bytes: &[u8]) -> usize
     ensures before { result ≡ blank_line bytes.now }
     ensures within { result ≤ length bytes.now }
 {
-    // A loop, and no `position`: whether a byte ends an empty line hangs on the byte before it.
+    // Whether a byte ends an empty line hangs on the byte before it.
     let mut fresh = true;
     for (at, b) in bytes.iter().enumerate() {
         let ends = *b == b'\n';

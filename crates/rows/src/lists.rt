@@ -3,7 +3,7 @@ ghost use Rattle.std.specs.Prelude.{◌≡◌, ◌<◌, ◌≤◌, length, take,
 ghost use Rattle.std.specs.Str.{bytes_eq};
 ghost use Rattle.rows.specs.declared.row.PieceFault.TheVariants.{Mismatch};
 
-use crate::names::same_name;
+use crate::putting::close_base;
 use crate::row::{PieceFault, Row, RowKind};
 
 /// Rows, and at each row's place in the list beside its action's plain form. Both lists are the caller's.
@@ -48,15 +48,11 @@ impl<'a, P: Copy> Lists<'a, P> {
         ensures actions { self.new.actions.now ≡ self.old.actions.now }
         ensures same { SameLists self.old self.new }
     {
-        let open = self.rows[i];
-        if !same_name(file, open, row) {
-            return Err(row.mismatch());
+        if close_base(file, self.rows, i, row) {
+            Ok(())
+        } else {
+            Err(row.mismatch())
         }
-        self.rows[i] = Row {
-            kind: RowKind::Done,
-            ..open
-        };
-        Ok(())
     }
 
     /// Keeps only the Close rows of the first `n`, in place, and says how many there are.

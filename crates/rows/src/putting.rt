@@ -1,10 +1,12 @@
 //! One row put after others.
-ghost use Rattle.std.specs.Prelude.{◌≡◌, ℕ, ◌<◌, ◌≤◌, length, drop, None, slice_set, IfSome};
-ghost use Rattle.rows.specs.Pieces.{Inside, take_row};
+ghost use Rattle.std.specs.Prelude.{◌≡◌, ℕ, ◌<◌, ◌≤◌, length, drop, None, if◌then◌else◌, slice_set, IfSome};
+ghost use Rattle.std.specs.Str.{bytes_eq};
+ghost use Rattle.rows.specs.Pieces.{Inside, name, done, take_row};
 ghost use Rattle.rows.specs.Places.{stored, paired, Based, at, entry, state, grown, stopped, wrote, under_at};
 ghost use Rattle.rows.specs.Same.{SameLists};
 
 use crate::lists::Lists;
+use crate::names::same_name;
 use crate::row::{Row, RowKind};
 use machine::Machine;
 
@@ -15,6 +17,25 @@ pub enum Step {
     /// It closed the base.
     Closed,
     Mismatch,
+}
+
+/// Closes the base at `i` by the end tag `row` if it has the same name, and says whether it has.
+pub fn close_base(file: &[u8], rows: &mut [Row], i: usize, row: Row) -> bool
+    requires here { i < length rows.old }
+    requires open { Inside file.now (at rows.old i) }
+    requires own { Inside file.now row }
+    ensures same { result ≡ bytes_eq (name file.now (at rows.old i)) (name file.now row) }
+    ensures rows { rows.new ≡ (if result then slice_set rows.old i (done (at rows.old i)) else rows.old) }
+{
+    let open = rows[i];
+    if !same_name(file, open, row) {
+        return false;
+    }
+    rows[i] = Row {
+        kind: RowKind::Done,
+        ..open
+    };
+    true
 }
 
 /// The plain form of one action and then another.

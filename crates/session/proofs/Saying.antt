@@ -1,7 +1,7 @@
 -- What comes of a text of queries, and of an input.
 use Rattle.std.proofs.Common.{◌≡◌, ℕ, List, length, Some, None, Ok, Err, Option, Result, refl, ◌∙◌, subst}
 use Rattle.request.specs.declared.stop.Stop.{Stop}
-use Rattle.request.specs.declared.stop.Stop.TheVariants.{Refused, NoMemory}
+use Rattle.request.specs.declared.stop.Stop.TheVariants.{Refused}
 use Rattle.request.specs.Asked.{Asked, asked, request}
 use Rattle.machine.specs.declared.refusal.Refusal.{Refusal}
 use Rattle.machine.specs.declared.refusal.Refusal.TheVariants.{TextTooLong, NotQueries, TooManyPositions, NamesOverLimit, TooManySets, FileTooLong, OtherLength, ListsTooShort, OutOfRange, NoSuchPiece, PiecesApart, NotWhole, RowsBroken, TooManyPieces, NoRoomForRows, NoRoomForMatches}
@@ -18,7 +18,7 @@ use Rattle.runs.specs.declared.steps.Step.{Step}
 use Rattle.job.specs.State.{asked_open, Turns, Ended}
 use Rattle.solving.specs.Plan.{plan_of}
 use Rattle.solving.specs.Solving.{Solved, SolveSays}
-use Rattle.session.specs.Answering.{room, Tried, TextSays, refuses, by_table, by_relation, OwnAnswer, Said, Wanted}
+use Rattle.session.specs.Answering.{room, Tried, TextSays, refuses, by_table, by_relation, OwnAnswer, Said}
 
 -- but for the sets that arise, the table machine is refused as any is
 pub refused-too : (queries : List ℕ) (why : Refusal) → (why ≡ TooManySets → ⊥) → TableRefused queries why → text.Refused queries why

@@ -1,4 +1,4 @@
-//! The calls that make pieces.
+//! The calls that make pieces, and the one that finishes a file.
 ghost use Rattle.std.specs.Prelude.{◌≡◌, ◌+◌, ◌^◌, ◌<◌};
 ghost use Rattle.rows.specs.Stretches.{joined_ends};
 ghost use Rattle.rows.specs.Lists.{ends_of};

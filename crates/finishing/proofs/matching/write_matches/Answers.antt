@@ -11,7 +11,7 @@ loop-row-init g c =
     let it = c.into_iter-row-iterator.ensures.into_iter_gives in
     let rows-are = ap (λ x. x.a.rest.now) it ∙ ap (λ x. x.rest.now) c.zip-row-items.ensures.first ∙ c.iter.ensures.rest in
     let acts-are = ap (λ x. x.b.rest.now) it ∙ c.zip-row-items.ensures.second.0 in
-    pending-as (sym (same-matches (stored (g.M.Machine.model c.args.m.now)) rows-are acts-are)) (all-pending 0 _ _ _ (omega arith) c.requires)
+    pending-as (sym (same-matches (stored (g.M.Machine.model c.args.m.now)) rows-are acts-are)) (all-pending c.args.at _ _ _ refl c.requires)
 
 pub write_set-n-requires : goal.write_set-n-requires
 write_set-n-requires g c =

@@ -19,8 +19,8 @@ returns-in_err-close_base-clause-put g c p =
     put-row s.file.now m was c.close_base.new.self a.self.now a.self.now c.from_residual.result n (Some a.row.place) a.row p (omega arith) refl fault refl
     (state-of n n _ did.mismatch.2 did.actions (mismatch-step s.file.now m was.rows.now was.actions.now was.beside n n c.requires.room (omega arith) a.row a.i b p c.requires.closes did.mismatch.1))
 
-pub next_base-self-requires-clause-chain : goal.next_base-self-requires-clause-chain
-next_base-self-requires-clause-chain g c =
+pub base_below-self-requires-clause-chain : goal.base_below-self-requires-clause-chain
+base_below-self-requires-clause-chain g c =
     let a = c.args in
     closed-chain a.lists.now.rows.now c.close_base.new.self.rows.now a.self.now a.i c.requires.ready.chain c.requires.base c.in_ok-close_base.ensures.closed.1
 
