@@ -1,11 +1,10 @@
 -- The marks, stretches and contents of a part that is cut.
-use Rattle.std.proofs.Common.{◌≡◌, ℕ, ◌+◌, ◌≤◌, List, [], ◌∷◌, ◌++◌, length, sym, refl, ap, ◌∙◌, append_assoc, append-nil, arith, length-append}
+use Rattle.std.proofs.Common.{◌≡◌, ℕ, ◌≤◌, List, [], ◌∷◌, ◌++◌, length, sym, refl, ap, ◌∙◌, append_assoc, append-nil, arith, length-append}
 use Rattle.std.specs.List.{between}
-use Rattle.std.proofs.lemmas.List.Edits.{length-between}
 use Rattle.std.proofs.lemmas.Slice.{between_to_end}
 use Rattle.std.proofs.lemmas.Bool.Decides.{nat_tests}
 use Rattle.tags.specs.Marks.{marks, marks_of, last_or, ends, scanned}
-use Rattle.tags.proofs.Parts.{marks-append, between-append}
+use Rattle.tags.proofs.Parts.{marks-cut}
 use Rattle.machine.specs.Model.{Model}
 use Rattle.rows.specs.Pieces.{Content, put}
 use Rattle.rows.specs.Stretches.{pairs, one, eval, content, joined_ends, joined_at, last_put}
@@ -22,14 +21,8 @@ pairs-append (x ∷ []) (y ∷ ys) = refl
 pairs-append (x ∷ z ∷ xs) [] = ap (λ l. (x, z) ∷ l) (pairs-append (z ∷ xs) [])
 pairs-append (x ∷ z ∷ xs) (y ∷ ys) = ap (λ l. (x, z) ∷ l) (pairs-append (z ∷ xs) (y ∷ ys))
 
-marks-cut : (file : List ℕ) (a i b : ℕ) → a ≤ i → i ≤ b → b ≤ length file → marks_of file a b ≡ marks_of file a i ++ marks_of file i b
-marks-cut file a i b h k l =
-    let n : a + length (between a i file) ≡ i = let e = length-between file a i (omega arith) in omega arith in
-    ap (λ x. marks x a) (between-append file a i b h k) ∙ marks-append (between a i file) (between i b file) a
-    ∙ ap (λ x. marks_of file a i ++ marks (between i b file) x) n
-
 pub stretched : Stretched
-stretched file a i b h k l = ap pairs (marks-cut file a i b h k l) ∙ pairs-append (marks_of file a i) (marks_of file i b)
+stretched file a i b h k l = ap pairs (marks-cut file a i b h k (omega arith)) ∙ pairs-append (marks_of file a i) (marks_of file i b)
 
 last_or-append : (d : ℕ) (ks : List ℕ) (l : ℕ) (ls : List ℕ) → last_or d (ks ++ l ∷ ls) ≡ last_or l ls
 last_or-append d [] l ls = refl
@@ -71,8 +64,8 @@ module _ {A P : Type 0} (m : Model A P) (file : List ℕ) where
 
 pub join : {A P : Type 0} (m : Model A P) → Assoc m → Join m
 join m assoc file a i b h k l = record {
-  marks = ap (ends b) (marks-cut file a i b h k l) ∙ ends-append i b (marks_of file a i) (marks_of file i b);
-  contents = ap (of-marks m file) (marks-cut file a i b h k l) ∙ of-append m file assoc i b (marks_of file a i) (marks_of file i b);
+  marks = ap (ends b) (marks-cut file a i b h k (omega arith)) ∙ ends-append i b (marks_of file a i) (marks_of file i b);
+  contents = ap (of-marks m file) (marks-cut file a i b h k (omega arith)) ∙ of-append m file assoc i b (marks_of file a i) (marks_of file i b);
 }
 
 all_bytes : (file : List ℕ) → between 0 (length file) file ≡ file

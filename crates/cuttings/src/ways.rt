@@ -13,62 +13,67 @@ fn step(call: Call) -> Step {
     }
 }
 
-/// The pieces that end at these places, each as the places where it begins and ends.
-fn pieces(heap: Global, ends: &[usize]) -> Result<Vec<(usize, usize)>, AllocError> {
-    let mut pieces = Vec::new(heap);
-    let mut from = 0;
-    for to in ends {
-        pieces.push((from, *to))?;
-        from = *to;
-    }
-    Ok(pieces)
+/// Calls that read pieces in turn: the last one that stands makes all that was read so far.
+#[derive(Drop)]
+struct Plan {
+    steps: Vec<Step>,
+    whole: usize,
 }
 
-/// Reads these pieces in turn, joins each as `join` says to what stands joined so far, and finishes the whole.
-fn steps_of<F: Fn(usize, usize) -> Call>(
-    heap: Global,
-    pieces: &[(usize, usize)],
-    join: F,
-) -> Result<Vec<Step>, AllocError>
-    requires { F.IsAlwaysCallable join }
-{
-    let mut steps = Vec::new(heap);
-    let mut whole = 0;
-    for (from, to) in pieces {
-        let piece = steps.len();
-        steps.push(step(Call::Read {
-            from: *from,
-            to: *to,
-        }))?;
-        if piece > 0 {
-            let joined = steps.len();
-            steps.push(step(join(whole, piece)))?;
-            whole = joined;
+impl Plan {
+    fn new(heap: Global) -> Plan {
+        Plan {
+            steps: Vec::new(heap),
+            whole: 0,
         }
     }
-    steps.push(step(Call::Finish { piece: whole }))?;
-    Ok(steps)
+
+    /// Reads a piece, and joins it as `join` says to what was read so far, if anything was.
+    fn add<F: Fn(usize, usize) -> Call>(
+        &mut self,
+        from: usize,
+        to: usize,
+        join: F,
+    ) -> Result<(), AllocError>
+        requires { F.IsAlwaysCallable join }
+    {
+        let piece = self.steps.len();
+        self.steps.push(step(Call::Read { from, to }))?;
+        if piece > 0 {
+            let joined = self.steps.len();
+            self.steps.push(step(join(self.whole, piece)))?;
+            self.whole = joined;
+        }
+        Ok(())
+    }
+
+    /// Finishes the whole.
+    fn finish(self) -> Result<Vec<Step>, AllocError> {
+        let Plan { mut steps, whole } = self;
+        steps.push(step(Call::Finish { piece: whole }))?;
+        Ok(steps)
+    }
 }
 
 /// Reads the pieces that end at these places, from the first on, and joins each to what stands before it.
 pub fn from_left(heap: Global, ends: &[usize]) -> Result<Vec<Step>, AllocError> {
-    let pieces = pieces(heap, ends)?;
-    steps_of(
-        heap,
-        pieces.as_slice(),
-        |left, right| Call::Join { left, right },
-    )
+    let mut plan = Plan::new(heap);
+    let mut from = 0;
+    for to in ends {
+        plan.add(from, *to, |left, right| Call::Join { left, right })?;
+        from = *to;
+    }
+    plan.finish()
 }
 
 /// Reads the same pieces from the last back, and joins each to what stands after it.
 pub fn from_right(heap: Global, ends: &[usize]) -> Result<Vec<Step>, AllocError> {
-    let mut pieces = pieces(heap, ends)?;
-    pieces.as_mut_slice().reverse();
-    steps_of(
-        heap,
-        pieces.as_slice(),
-        |right, left| Call::Join { left, right },
-    )
+    let mut plan = Plan::new(heap);
+    for (i, to) in ends.iter().enumerate().rev() {
+        let from = if i == 0 { 0 } else { ends[i - 1] };
+        plan.add(from, *to, |right, left| Call::Join { left, right })?;
+    }
+    plan.finish()
 }
 
 /// Whether the file, cut at these places, tells the same in both orders.

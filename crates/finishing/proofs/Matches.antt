@@ -15,7 +15,7 @@ use Rattle.answers.specs.Finish.{row_matches}
 use Rattle.answers.proofs.Wholes.{row-matches-append}
 use Rattle.finishing.specs.Ends.{last_row}
 
-abbrev match_of : ℕ → ℕ → Match
+abbrev pub match_of : ℕ → ℕ → Match
 match_of p q = record { place = p; query = q }
 
 -- how many there are does not depend on where they stand

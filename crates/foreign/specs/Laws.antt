@@ -7,24 +7,24 @@ use Rattle.foreign.specs.Parities.{odd, differ, bytes, parity, verdict, parities
 use Rattle.foreign.specs.declared.parity.Parity.{Parity}
 use Rattle.foreign.specs.declared.parity.ParityMachine.{ParityMachine}
 
-same : (p q : Parity) → p.names ≡ q.names → p.bytes ≡ q.bytes → p ≡ q
+pub same : (p q : Parity) → p.names ≡ q.names → p.bytes ≡ q.bytes → p ≡ q
 same p q d e = λ i. record { names = d i; bytes = e i }
 
-differ-assoc : (a b c : Bool) → differ (differ a b) c ≡ differ a (differ b c)
+pub differ-assoc : (a b c : Bool) → differ (differ a b) c ≡ differ a (differ b c)
 differ-assoc true true true = refl
 differ-assoc true true false = refl
 differ-assoc true false true = refl
 differ-assoc true false false = refl
 differ-assoc false b c = refl
 
-differ-false : (a : Bool) → differ a false ≡ a
+pub differ-false : (a : Bool) → differ a false ≡ a
 differ-false true = refl
 differ-false false = refl
 
-odd-sum : (k n : ℕ) → differ (odd k) (odd n) ≡ odd (k + n)
+pub odd-sum : (k n : ℕ) → differ (odd k) (odd n) ≡ odd (k + n)
 odd-sum k n = grind (arith, nat_tests)
 
-along : (m : ParityMachine) (names all : ℕ) (ns : List (List ℕ))
+pub along : (m : ParityMachine) (names all : ℕ) (ns : List (List ℕ))
     → then_all (parities m).then (parities m).action (parity names all) ns ≡ parity (names + length ns) (all + bytes ns)
 along m names all [] = same _ _ (ap odd (omega arith)) (ap odd (omega arith))
 along m names all (n ∷ ns) =
@@ -32,7 +32,7 @@ along m names all (n ∷ ns) =
     ∙ along m (names + 1) (all + length n) ns
     ∙ same _ _ (ap odd (omega arith)) (ap odd (omega arith))
 
-round : (m : ParityMachine) (a b : Bool) → (parities m).back ((parities m).plain (record { names = a; bytes = b })) ≡ record { names = a; bytes = b }
+pub round : (m : ParityMachine) (a b : Bool) → (parities m).back ((parities m).plain (record { names = a; bytes = b })) ≡ record { names = a; bytes = b }
 round m true true = refl
 round m true false = refl
 round m false true = refl

@@ -72,14 +72,14 @@ long_name ns n l f =
 
 -- a search for a name through what the names are of
 module _ {X : Type 0} (of : X → List ℕ) where
-  column-none : (xs : List X) (n : List ℕ) → AllWithin (λ x. bytes_eq (of x) n ≡ false) xs 0 (length xs) → column (map of xs) n ≡ 0
+  pub column-none : (xs : List X) (n : List ℕ) → AllWithin (λ x. bytes_eq (of x) n ≡ false) xs 0 (length xs) → column (map of xs) n ≡ 0
   column-none [] n h = refl
   column-none (x ∷ xs) n h =
       let other = h 0 x (omega arith) (omega arith) in
       let ih = column-none xs n (λ k d low high. h (suc k) d (omega arith) (omega (arith, high))) in
       grind (arith, nat_tests, other, ih)
 
-  column-found : (xs : List X) (n : List ℕ) (i : ℕ) → i < length xs → HoldsAt (λ x. bytes_eq (of x) n ≡ true) xs i → AllWithin (λ x. bytes_eq (of x) n ≡ false) xs 0 i → column (map of xs) n ≡ i + 1
+  pub column-found : (xs : List X) (n : List ℕ) (i : ℕ) → i < length xs → HoldsAt (λ x. bytes_eq (of x) n ≡ true) xs i → AllWithin (λ x. bytes_eq (of x) n ≡ false) xs 0 i → column (map of xs) n ≡ i + 1
   column-found [] n i l h others = absurd (omega (arith, l))
   column-found (x ∷ xs) n zero l h others = let same = h x in grind (arith, nat_tests, same)
   column-found (x ∷ xs) n (suc i) l h others =

@@ -4,7 +4,8 @@ use lib.Bits.{bit_or, or_shifted_r, or_comm, or_zero_r}
 use lib.ListN.{length-map}
 use Rattle.std.specs.List.{fold}
 use Rattle.std.proofs.Math.Nat.{mod-eq_of_lt}
-use Rattle.std.proofs.lemmas.List.{reverse-append, get_or_past, get_or-replicate}
+use Rattle.std.proofs.lemmas.List.Folds.{fold-map}
+use Rattle.std.proofs.lemmas.List.{map-append, reverse-append, get_or_past, get_or-replicate}
 use Rattle.std.proofs.lemmas.List.Sums.{fold-append}
 use Rattle.std.proofs.lemmas.Bool.{cases_lt}
 use Rattle.std.proofs.lemmas.Bool.Decides.{nat_tests}
@@ -41,6 +42,17 @@ fold-under w (b ∷ bs) l =
     ∙ ap (λ m. under w m b) (fold-under w bs (omega arith))
     ∙ under-mask w bs b (omega arith)
 
+map-reverse : {X Y : Type 0} (f : X → Y) (xs : List X) → map f (reverse xs) ≡ reverse (map f xs)
+map-reverse f [] = refl
+map-reverse f (x ∷ xs) =
+    ap (map f) (reverse-append (x ∷ []) xs) ∙ map-append f (reverse xs) (x ∷ []) ∙ ap (λ ys. ys ++ f x ∷ []) (map-reverse f xs)
+    ∙ sym (reverse-append (f x ∷ []) (map f xs))
+
+-- the bits of elements, from the last one on
+pub fold-tested : {X : Type 0} (w : ℕ) (f : X → Bool) (xs : List X) → length xs ≤ w → fold (λ m x. under w m (f x)) 0 (reverse xs) ≡ mask (map f xs)
+fold-tested w f xs l =
+    sym (fold-map (under w) f 0 (reverse xs)) ∙ ap (fold (under w) 0) (map-reverse f xs) ∙ fold-under w (map f xs) (omega (arith, length-map xs f))
+
 same-bits : (bs cs : List Bool) → ((k : ℕ) → get_or bs k false ≡ get_or cs k false) → mask bs ≡ mask cs
 unfolding mask
 same-bits [] [] h = refl
@@ -53,16 +65,6 @@ mask-tab f n bs l h = same-bits (tab f n) bs (λ k. elim (cases_lt k n) [
   | inl u ↦ get_or-tab f n k false u ∙ h k u
   | inr u ↦ get_or_past (tab f n) k false (omega (arith, length_tab f n)) ∙ sym (get_or_past bs k false (omega arith))
 ])
-
-tested : {X : Type 0} (f : X → Bool) (xs : List X) (d : X) (k : ℕ) → (ltb k (length xs) && f (get_or xs k d)) ≡ get_or (map f xs) k false
-tested f [] d k = grind (arith, nat_tests)
-tested f (x ∷ xs) d zero = grind (arith, nat_tests)
-tested f (x ∷ xs) d (suc k) = grind (arith, nat_tests, tested f xs d k)
-
--- those of n places whose element passes a test
-pub mask-tested : {X : Type 0} (f : X → Bool) (xs : List X) (d : X) (n : ℕ) → length xs ≤ n
-    → mask (tab (λ k. ltb k (length xs) && f (get_or xs k d)) n) ≡ mask (map f xs)
-mask-tested f xs d n l = mask-tab _ n (map f xs) (omega (arith, length-map xs f)) (λ k h. tested f xs d k)
 
 -- a place that is unused, or whose element passes a test
 pub rest_tested : {X : Type 0} (f : X → Bool) (xs : List X) (d : X) (m k : ℕ) → k < length xs + m

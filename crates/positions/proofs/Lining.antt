@@ -15,14 +15,14 @@ first_of lasts q = cond (ltb 0 q && ltb q (length lasts)) (get_or lasts (q - 1) 
 abbrev pub last_of : List ℕ → ℕ → ℕ
 last_of lasts q = cond (ltb q (length lasts)) (get_or lasts q 0) 0
 
-first_is : (lasts : List ℕ) (q : ℕ) → q < length lasts → first_of lasts q ≡ begun lasts q
+pub first_is : (lasts : List ℕ) (q : ℕ) → q < length lasts → first_of lasts q ≡ begun lasts q
 first_is lasts zero l = refl
 first_is lasts (suc q) l = grind (arith, nat_tests)
 
 first_none : (lasts : List ℕ) (q : ℕ) → length lasts ≤ q → first_of lasts q ≡ 0
 first_none lasts q l = grind (arith, nat_tests)
 
-last_is : (lasts : List ℕ) (q : ℕ) → q < length lasts → last_of lasts q ≡ get_or lasts q 0
+pub last_is : (lasts : List ℕ) (q : ℕ) → q < length lasts → last_of lasts q ≡ get_or lasts q 0
 last_is lasts q l = grind (arith, nat_tests)
 
 last_none : (lasts : List ℕ) (q : ℕ) → length lasts ≤ q → last_of lasts q ≡ 0

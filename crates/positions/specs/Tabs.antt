@@ -1,6 +1,6 @@
 -- Lists that are made from a function of the index.
-use Rattle.std.specs.Prelude.{◌≡◌, ℕ, zero, suc, ◌+◌, ◌<◌, ◌≤◌, List, map, length, slice_index, slice_index_or}
-use Rattle.std.proofs.Common.{sym, ◌∙◌, subst, inl, inr, arith}
+use Rattle.std.specs.Prelude.{◌≡◌, ℕ, zero, suc, ◌+◌, ◌<◌, ◌≤◌, List, map, length, get_or, slice_index, slice_index_or, slice_set}
+use Rattle.std.proofs.Common.{sym, ap, ◌∙◌, subst, inl, inr, arith}
 use mathlib.Core.Path.{PathP}
 use mathlib.Core.HLevel.{is_prop→PathP}
 use std.HLevel.{Π_prop}
@@ -10,6 +10,8 @@ use denote.Param.Members.{Mut, Called}
 use Rattle.std.specs.Array.{IsFromFnResultFrom, IsFromFnResult}
 use Rattle.std.specs.List.{range_with_len}
 use Rattle.std.proofs.lemmas.Bool.{cases_eq}
+use Rattle.std.proofs.lemmas.List.{length-set}
+use Rattle.std.proofs.lemmas.List.Edits.{fill_by_more}
 use Rattle.std.proofs.lemmas.List.FromFn.{length-map-range_with_len, get_or-map-range_with_len, fill_by_all}
 
 -- the list of f 0, f 1, .. f (n - 1); shut, since at a numeral n it would compute to n elements in every goal
@@ -34,6 +36,14 @@ tab_is f xs n d size at = sym (is_tab f xs n d size (λ k h. sym (at k h)))
 
 pub tab_same : {X : Type 0} (f g : ℕ → X) (n : ℕ) (d : X) → ((k : ℕ) → k < n → f k ≡ g k) → tab f n ≡ tab g n
 tab_same f g n d same = is_tab g (tab f n) n d (length_tab f n) (λ k h. get_or-tab f n k d h ∙ same k h)
+
+-- a turn of a loop that writes f k at each place k
+pub filled_more : {X : Type 0} (f : ℕ → X) (xs : List X) (n i : ℕ) (v d : X) → i < n → v ≡ f i → (length xs ≡ n) × ((k : ℕ) → k < i → slice_index_or xs k d ≡ f k)
+    → (length (slice_set xs i v) ≡ n) × ((k : ℕ) → k < i + 1 → slice_index_or (slice_set xs i v) k d ≡ f k)
+filled_more f xs n i v d l e h = (
+  length-set xs i v ∙ h.0,
+  λ k b. ap (λ x. get_or (slice_set xs i x) k d) e ∙ fill_by_more f xs i d (omega (arith, h.0)) h.1 k b,
+)
 
 -- the length of a list, and a bound on its elements, along an equation
 pub length-along : (n : ℕ) {xs ys : List ℕ} (e : xs ≡ ys) (p : length xs ≡ n) (q : length ys ≡ n) → PathP (λ k. length (e k) ≡ n) p q

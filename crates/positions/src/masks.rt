@@ -49,7 +49,10 @@ pub fn fit_mask(positions: &[Position], column: u8) -> u32
     requires { length positions.now ≤ 32 }
     ensures { result ≡ fit_mask positions.now column }
 {
-    mask_of(array::from_fn(|j| j < positions.len() && fits(positions[j], column)))
+    positions
+        .iter()
+        .rev()
+        .fold(0, |mask, p| mask << 1 | u32::from(fits(*p, column)))
 }
 
 /// The positions whose step is `//`.
@@ -57,7 +60,10 @@ pub fn deep_mask(positions: &[Position]) -> u32
     requires { length positions.now ≤ 32 }
     ensures { result ≡ deep_mask positions.now }
 {
-    mask_of(array::from_fn(|j| j < positions.len() && deep(positions[j])))
+    positions
+        .iter()
+        .rev()
+        .fold(0, |mask, p| mask << 1 | u32::from(deep(*p)))
 }
 
 /// These, and the unused ones of 32 positions.

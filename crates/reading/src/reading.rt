@@ -76,6 +76,7 @@ impl Reader {
         ensures put { so_far lists.new self.new ≡ put source.now.file.now (stored (M.model source.now.machine.now)) (so_far lists.old self.old) (lone row plain.now) }
         ensures ready { Ready source.now.file.now lists.new.rows.now self.new }
         ensures rows { self.new.rows ≡ self.old.rows + 1 }
+        ensures opens { (row.kind ≡ RowKind.Open → ⊥) → (self.new.base ≡ self.old.base) × (self.new.opens ≡ self.old.opens) }
         ensures same { SameLists lists.old lists.new }
     {
         let n = self.rows;

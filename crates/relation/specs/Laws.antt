@@ -20,13 +20,13 @@ right : (a : RelationAction) → then_rows a staying ≡ a
 right a = same-action _ _ (tab_is _ a.rows 32 0 a.size (λ k h. picked-powers 32 (slice_index a.rows k) (a.low k h)))
 
 -- a set, through the action of a name
-by_name : (m : RelationMachine) (a : RelationAction) (n : List ℕ) (k : ℕ) → k < 32
+pub by_name : (m : RelationMachine) (a : RelationAction) (n : List ℕ) (k : ℕ) → k < 32
     → slice_index (then_rows a (naming m n)).rows k ≡ moves_of m (slice_index a.rows k) (column_of m n)
 unfolding moved_on
 by_name m a n k h =
     get_or-tab _ 32 k 0 h ∙ picked-moved 32 (slice_index m.moves.fits (column_of m n)) m.moves.stays (slice_index a.rows k) (a.low k h)
 
-by_path : (m : RelationMachine) (ns : List (List ℕ)) (a : RelationAction) (k : ℕ) → k < 32
+pub by_path : (m : RelationMachine) (ns : List (List ℕ)) (a : RelationAction) (k : ℕ) → k < 32
     → slice_index (then_all then_rows (naming m) a ns).rows k ≡ run_by (moves_of m) (slice_index a.rows k) (map (column_of m) ns)
 by_path m [] a k h = refl
 by_path m (n ∷ ns) a k h = by_path m ns (then_rows a (naming m n)) k h ∙ ap (λ s. run_by (moves_of m) s (map (column_of m) ns)) (by_name m a n k h)

@@ -2,6 +2,7 @@
 ghost use Rattle.std.specs.Prelude.{◌≡◌};
 ghost use Rattle.request.specs.Asked.{number, as_refusal};
 
+pub use crate::stop::Stop;
 use machine::Refusal;
 
 /// What is wrong with an input. Its number is that of the question which the input is refused by.

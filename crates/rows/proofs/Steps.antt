@@ -10,7 +10,6 @@ use Rattle.rows.specs.Pieces.{Entry, name, base, done, close_last, Taken, take_r
 use Rattle.rows.specs.Places.{paired, at, NoneOpen, BaseAt, Based, entry, state, under_at}
 use Rattle.rows.proofs.Pairs.{length-paired, set-paired, set-row-paired, base-none, base-at, close_at}
 
--- two plain forms' actions, one after the other, in plain form
 -- the state of other lists that are equal
 pub state-of : {P : Type 0} {rs rs' : List Row} {ps ps' : List P} {t : Taken P} (left n : ℕ) (stop : Option ℕ) → rs' ≡ rs → ps' ≡ ps → state (paired rs ps) left n stop ≡ t → state (paired rs' ps') left n stop ≡ t
 state-of left n stop r p e = cc
@@ -42,18 +41,18 @@ module _ {P Q : Type 0} (file : List ℕ) (m : Model P Q) where
     abbrev z : List (Entry P)
     z = paired rs ps
 
-    push_step : (p q : P) → q ≡ p → state (paired (set rs n row) (set ps n q)) left (n + 1) None ≡ pushed (state z left n None) (entry row p)
+    pub push_step : (p q : P) → q ≡ p → state (paired (set rs n row) (set ps n q)) left (n + 1) None ≡ pushed (state z left n None) (entry row p)
     push_step p q e =
         ap (λ x. state x left (n + 1) None) (set-paired rs ps n row q)
         ∙ state-push z left n (entry row q) (let w = length-paired rs ps sizes in omega arith) within
         ∙ ap (λ a. pushed (state z left n None) (record { row = row; act = a })) e
 
-    none-step : (p : P) → NoneOpen rs 0 left → state (paired (set rs n row) (set ps n p)) left (n + 1) None ≡ take_row file m (state z left n None) (entry row p)
+    pub none-step : (p : P) → NoneOpen rs 0 left → state (paired (set rs n row) (set ps n p)) left (n + 1) None ≡ take_row file m (state z left n None) (entry row p)
     none-step p none =
         push_step p p refl ∙ sym (row-none (state z left n None) (entry row p) refl (base-none rs ps left sizes (omega arith) none))
 
     module _ (i : ℕ) (at_i : BaseAt rs left i) where
-      under-step : (p q r : P) → (row.kind ≡ Close → ⊥) → q ≡ m.then (get_or ps i r) p → state (paired (set rs n row) (set ps n q)) left (n + 1) None ≡ take_row file m (state z left n None) (entry row p)
+      pub under-step : (p q r : P) → (row.kind ≡ Close → ⊥) → q ≡ m.then (get_or ps i r) p → state (paired (set rs n row) (set ps n q)) left (n + 1) None ≡ take_row file m (state z left n None) (entry row p)
       under-step p q r k e =
           push_step (m.then (get_or ps i r) p) q e
           ∙ sym (row_under (state z left n None) (entry row p) (entry (at rs i) (get_or ps i r)) refl (base-at rs ps left i r sizes (omega arith) at_i) k)

@@ -1,8 +1,6 @@
 -- What comes of a text of queries, and of an input.
-use Rattle.std.proofs.Common.{◌≡◌, ℕ, List, length, Some, None, Ok, Err, Option, Result, refl, ◌∙◌, subst}
-use Rattle.request.specs.declared.stop.Stop.{Stop}
-use Rattle.request.specs.declared.stop.Stop.TheVariants.{Refused}
-use Rattle.request.specs.Asked.{Asked, asked, request}
+use Rattle.std.proofs.Common.{◌≡◌, ℕ, List, length, Some, None, Ok, Err, Option, Result, refl, subst}
+use Rattle.request.specs.Asked.{Asked, asked}
 use Rattle.machine.specs.declared.refusal.Refusal.{Refusal}
 use Rattle.machine.specs.declared.refusal.Refusal.TheVariants.{TextTooLong, NotQueries, TooManyPositions, NamesOverLimit, TooManySets, FileTooLong, OtherLength, ListsTooShort, OutOfRange, NoSuchPiece, PiecesApart, NotWhole, RowsBroken, TooManyPieces, NoRoomForRows, NoRoomForMatches}
 use Rattle.machine.specs.Model.{Model}

@@ -9,4 +9,4 @@ pub use answering::answer_input;
 pub use listing::listing_of;
 pub use printing::print_of;
 pub use request::Stop;
-pub use solving::{outcome_of, plan_calls, solve};
+pub use solving::{Outcome, outcome_of, plan_calls, solve};

@@ -6,6 +6,6 @@ pub mod outcome;
 pub mod plan;
 pub mod solving;
 
-pub use outcome::outcome_of;
+pub use outcome::{Outcome, outcome_of};
 pub use plan::plan_calls;
 pub use solving::solve;

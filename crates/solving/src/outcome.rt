@@ -6,8 +6,11 @@ use job::Answer;
 use machine::Refusal;
 use runs::{Reply, Step};
 
+/// What comes of a request: what is answered, or why it is refused.
+pub type Outcome = Result<Answer, Refusal>;
+
 /// A refusal or an answer decides.
-fn decides(reply: Reply) -> Option<Result<Answer, Refusal>>
+fn decides(reply: Reply) -> Option<Outcome>
     ensures { result ≡ decided reply }
 {
     match reply {
@@ -18,7 +21,7 @@ fn decides(reply: Reply) -> Option<Result<Answer, Refusal>>
 }
 
 /// The first refusal or answer among the replies.
-pub fn outcome_of(steps: &[Step]) -> Option<Result<Answer, Refusal>>
+pub fn outcome_of(steps: &[Step]) -> Option<Outcome>
     ensures { result ≡ outcome_of steps.now }
 {
     steps.iter().find_map(|step| decides(step.reply))

@@ -4,7 +4,7 @@ ghost use Rattle.request.specs.Stops.{IfDecided, Kept};
 ghost use Rattle.solving.specs.Plan.{plan_of};
 ghost use Rattle.solving.specs.Solving.{FinishesLast, calls_of, SolveSays};
 
-use crate::outcome::outcome_of;
+use crate::outcome::{Outcome, outcome_of};
 use crate::plan::plan_calls;
 use answers::Match;
 use job::{Answer, Job};
@@ -22,7 +22,7 @@ fn run_steps<M: Machine>(
     actions: &mut [M::Plain],
     matches: &mut [Match],
     steps: &mut [Step],
-) -> Result<Answer, Refusal>
+) -> Outcome
     requires { FinishesLast (calls_of steps.old) }
     ensures { SolveSays (M.model m.now) steps.old file.now rows.old actions.old matches.old result rows.new actions.new matches.new }
 {

@@ -17,7 +17,7 @@ left a = same-action _ _ (tab_is _ a.to 32 0 a.size (λ k h. ap (slice_index a.t
 right : (a : TableAction) → then_states a staying ≡ a
 right a = same-action _ _ (tab_is _ a.to 32 0 a.size (λ k h. get_or-tab _ 32 (slice_index a.to k) 0 (a.ok k h)))
 
-by_path : (m : TableMachine) (ns : List (List ℕ)) (a : TableAction) (k : ℕ) → k < 32
+pub by_path : (m : TableMachine) (ns : List (List ℕ)) (a : TableAction) (k : ℕ) → k < 32
     → slice_index (then_all then_states (naming m) a ns).to k ≡ walk m.states.next (slice_index a.to k) (map (column_of m) ns)
 by_path m [] a k h = refl
 by_path m (n ∷ ns) a k h =

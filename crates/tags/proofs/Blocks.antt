@@ -1,5 +1,5 @@
 -- Blocks of bytes, and the marks in them.
-use Rattle.std.proofs.Common.{◌≡◌, ℕ, zero, suc, ◌+◌, ◌*◌, ◌%◌, ◌^◌, ◌<◌, ◌≤◌, true, false, cond, not, eqb, List, [], ◌∷◌, ◌++◌, map, length, get_or, take, drop, replicate, Option, None, Some, subst, sym, refl, ap, ◌∙◌, ⊎_elim, append-nil, append_assoc, add-zero, arith, length-append, length-take, length-drop, drop-drop, w8}
+use Rattle.std.proofs.Common.{◌≡◌, ℕ, zero, suc, ◌+◌, ◌*◌, ◌%◌, ◌^◌, ◌<◌, ◌≤◌, true, false, cond, not, eqb, List, [], ◌∷◌, ◌++◌, map, length, get_or, take, drop, replicate, Option, None, Some, subst, sym, refl, ap, ◌∙◌, ⊎_elim, append-nil, append_assoc, add-zero, arith, length-append, length-take, length-drop, drop-drop, take-add, w8}
 use lib.Count.{count_trailing_zeros}
 use lib.Lanes.{mask_l, zip2, top}
 use Rattle.std.specs.List.{between, count_by, AllWithin, HoldsAt}
@@ -81,27 +81,41 @@ first_chunks-at (suc k) bs (suc i) h =
     let e : 16 + 16 * i ≡ 16 * suc i = omega arith in
     first_chunks-at k (drop 16 bs) i (omega (arith, h)) ∙ ap (take 16) (drop-drop (16 * i) 16 bs ∙ ap (λ j. drop j bs) e)
 
+-- bytes without a mark before others
+clear : (xs ys : List ℕ) (at : ℕ) → marks xs at ≡ [] → unmarked (xs ++ ys) ≡ length xs + unmarked ys
+clear [] ys at h = omega arith
+clear (x ∷ xs) ys at h =
+    elim (mark x) as (λ t. cond t (at ∷ marks xs (at + 1)) (marks xs (at + 1)) ≡ [] → cond (not t) (1 + unmarked (xs ++ ys)) 0 ≡ length (x ∷ xs) + unmarked ys)
+    [ true ↦ (λ e. absurd (omega (arith, ap length e))) | false ↦ (λ e. let f = clear xs ys (at + 1) e in omega (arith, f)) ] h
+
 -- the first mark of bytes that have none before `at`
-module _ (bs : List ℕ) (at : ℕ) (was : unmarked bs ≡ at + unmarked (drop at bs)) where
+module _ (bs : List ℕ) (at : ℕ) (was : marks (take at bs) 0 ≡ []) (within : at ≤ length bs) where
+  pub ahead : unmarked bs ≡ at + unmarked (drop at bs)
+  ahead =
+      let e = ap unmarked (sym (take-append-drop at bs)) ∙ clear (take at bs) (drop at bs) 0 was in
+      omega (arith, e, length-take at bs, within)
+
   -- a block b of 16 bytes comes next
   module _ (b : List ℕ) (room : at + 16 ≤ length bs) (is : b ≡ take 16 (drop at bs)) where
-    length-block : length b ≡ 16
+    pub length-block : length b ≡ 16
     length-block = omega (arith, ap length is, length-take 16 (drop at bs), length-drop at bs, room)
+
+    pub past-block : unmarked b ≡ length b → marks (take (at + 16) bs) 0 ≡ []
+    past-block h =
+        ap (λ l. marks l 0) (take-add at 16 bs ∙ ap (λ l. take at bs ++ l) (sym is))
+        ∙ marks-append (take at bs) b 0
+        ∙ ap (λ l. l ++ marks b (0 + length (take at bs))) was
+        ∙ none-marked b (0 + length (take at bs)) h
 
     seen : unmarked (drop at bs) ≡ cond (eqb (unmarked b) (length b)) (length b + unmarked (drop (at + 16) bs)) (unmarked b)
     seen =
         ap unmarked (sym (take-append-drop 16 (drop at bs)) ∙ ap (λ l. l ++ drop 16 (drop at bs)) (sym is) ∙ ap (λ l. b ++ l) (drop-drop 16 at bs))
         ∙ prefix_len-append (λ b. not (mark b)) b (drop (at + 16) bs)
 
-    pub past-block : unmarked b ≡ length b → unmarked bs ≡ (at + 16) + unmarked (drop (at + 16) bs)
-    past-block h =
-        let e = seen ∙ ap (λ t. cond t (length b + unmarked (drop (at + 16) bs)) (unmarked b)) (eq-eqb (unmarked b) (length b) h) in
-        omega (arith, was, e, length-block)
-
     pub in_block : (k : ℕ) → (k ≡ unmarked b) × (k < length b) → (at + k ≡ unmarked bs) × (at + k < length bs)
     in_block k h =
         let e = seen ∙ ap (λ t. cond t (length b + unmarked (drop (at + 16) bs)) (unmarked b)) (ne_eqb (unmarked b) (length b) (λ e. omega (arith, h.0, h.1, e))) in
-        (omega (arith, was, e, h.0), omega (arith, length-block, room, h.1))
+        (omega (arith, ahead, e, h.0), omega (arith, length-block, room, h.1))
 
 -- the first mark that was looked for byte by byte
 first-byte : (bs : List ℕ) (r : Option ℕ) → MatchOption r (AllWithin (λ b. b ≡ 60 → ⊥) bs 0 (length bs)) (λ k. (k < length bs) × HoldsAt (λ b. b ≡ 60) bs k × AllWithin (λ b. b ≡ 60 → ⊥) bs 0 k) → IsFirstMark bs r

@@ -27,3 +27,9 @@ returns-clause-ready g c =
       | in-Open w ↦ ready-open a.source.now.file.now a.lists.now.rows.now c.add_entry.new.lists.rows.now a.self.now is a.row c.requires.room c.requires.ready c.requires.own c.add_entry.ensures.rows refl w.in-Open.is (ap (λ r. r.base) w.self-is ∙ w.open.ensures.base) (subst (λ r. Under a.self.now.opens r.opens a.self.now.base) (sym w.self-is) w.open.ensures.under)
       | in_default w ↦ ready-shut a.source.now.file.now a.lists.now.rows.now c.add_entry.new.lists.rows.now a.self.now is a.row c.requires.room c.requires.ready c.requires.own c.add_entry.ensures.rows refl w.in_default.not-Open (ap (λ r. r.base) w.self-is) (ap (λ r. r.opens) w.self-is)
     ]
+
+pub returns-clause-opens : goal.returns-clause-opens
+returns-clause-opens g c shut = elim c.match-row.branch [
+  | in-Open w ↦ absurd (shut w.in-Open.is)
+  | in_default w ↦ (ap (λ r. r.base) w.self-is, ap (λ r. r.opens) w.self-is)
+]
